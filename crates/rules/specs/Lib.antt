@@ -6,6 +6,9 @@ pub mod Sheet
 pub mod Game
 pub mod Play
 pub mod Minimax
+pub mod Rewards
+pub mod Goals
+pub mod Premises
 pub mod Filter
 pub mod Sort
 pub mod Search
@@ -13,3 +16,8 @@ pub mod Memo
 pub mod Codes
 pub mod Drivers
 pub mod Choose
+pub mod Order
+pub mod NetGame
+pub mod Answer
+pub mod Call
+pub mod Cases

@@ -1,0 +1,2 @@
+-- What is computed from the definitions. Assumes nothing.
+mod Cases
