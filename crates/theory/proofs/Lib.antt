@@ -22,3 +22,10 @@ pub mod Scale
 pub mod Drivers
 pub mod Runs
 pub mod Simulation
+pub mod Choose
+pub mod Call
+pub mod InStep
+pub mod Counting
+pub mod MemoInStep
+pub mod Floats
+pub mod Theorems
