@@ -29,3 +29,4 @@ pub mod Counting
 pub mod MemoInStep
 pub mod Floats
 pub mod Theorems
+pub mod MemoExamples
