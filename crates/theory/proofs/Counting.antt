@@ -9,11 +9,11 @@ use native.Mathlib.Omega.{arith}
 use lib.Dec.{ltb}
 use borrow.Author.Tests.{ltb-true, ltb-false, lt-ltb, le-ltb}
 use Rattle.rules.specs.Game.{Game, Values, Side, Played, to, stopped, eqv}
-use Rattle.rules.specs.Search.{Entry, Outcome, value, spent, refused, Memory, Settings, State, Run, follow, then, passes, alpha-beta}
+use Rattle.rules.specs.Search.{Entry, Outcome, value, spent, refused, Memory, Policy, Settings, State, Run, follow, then, passes, alpha-beta}
 use Rattle.rules.specs.Drivers.{Driver, single, scout, mtd, run}
 use Rattle.rules.specs.Choose.{left, remembered, matched, child-run, check-played, check, root, chosen, recount, anew, choose}
 use Rattle.theory.specs.Counted.{choose-counted}
-use Rattle.theory.proofs.Simulation.{Both, Agree, Entries, InStep, Ends, alpha-beta-steps}
+use Rattle.theory.proofs.Simulation.{Both, Agree, Entries, InStep, Closed, Ends, alpha-beta-steps}
 use Rattle.theory.proofs.InStep.{Drivers, run-steps}
 use Rattle.theory.proofs.Answer.{Gives}
 use Rattle.theory.proofs.Budget.{Within, same, short, alpha-beta-budgeted}
@@ -35,15 +35,18 @@ module _ (G : Game) where
   entries-refl none = tt
   entries-refl (some e) = record { bounds-rel = record { lo-rel = refl; hi-rel = refl }; best-same = refl }
 
-  itself : (μ : Memory G) → InStep G own μ μ _≡_ _≡_
+  itself : (μ : Memory G) → InStep G own μ μ _≡_ _≡_ (λ p. Unit {0})
   itself μ = record {
     values = record { leb-same = λ a b x y h k. rw (h, k) refl; low-rel = refl; high-rel = refl; score-rel = λ p. refl };
-    get-rel = λ m n p e. rw e (entries-refl (μ .get n p));
-    store-alike = λ m n p e f work h k. alike m n p e f work h (k .bounds-rel .lo-rel) (k .bounds-rel .hi-rel) (k .best-same);
+    get-rel = λ m n p r e. rw e (entries-refl (μ .get n p));
+    store-alike = λ m n p e f work r h k. alike m n p e f work h (k .bounds-rel .lo-rel) (k .bounds-rel .hi-rel) (k .best-same);
   }
     where
       alike : (m n : μ .Memo) (p : G .Pos) (e f : Entry (G .Value)) (work : ℕ) → m ≡ n → e .bounds .lo ≡ f .bounds .lo → e .bounds .hi ≡ f .bounds .hi → e .best ≡ f .best → μ .store m p e work ≡ μ .store n p f work
       alike m n p e f work h a b c = λ i. μ .store (h i) p (record { bounds = record { lo = a i; hi = b i }; best = c i }) work
+
+  closed : (π : Policy (G .Pos)) → Closed G (λ p. Unit {0}) π
+  closed π = record { play-real = λ p t q r e. tt; arrange-real = λ h b s l a c i. tt }
 
   driver-itself : (δ : Driver G) → Drivers G own _≡_ δ δ
   driver-itself single = tt
@@ -96,8 +99,8 @@ module _ (G : Game) (S : Settings G) where
 
         e : Ends G (own G) (S .memory) (S .memory) (S .policy) _≡_ _≡_ n _≡_ x y
         e =
-            run-steps G (own G) (S .memory) (S .memory) (S .policy) _≡_ _≡_ (itself G (S .memory)) n δ δ (driver-itself G δ) (alpha-beta G S b d) (alpha-beta G S (left b n) d)
-            (alpha-beta-steps G (own G) (S .memory) (S .memory) (S .policy) _≡_ _≡_ (itself G (S .memory)) n b (left b n) (left-budget b n h) d) p st (recount G S 0 st)
+            run-steps G (own G) (S .memory) (S .memory) (S .policy) _≡_ _≡_ (λ p. Unit {0}) (itself G (S .memory)) (closed G (S .policy)) n δ δ (driver-itself G δ) (alpha-beta G S b d) (alpha-beta G S (left b n) d)
+            (alpha-beta-steps G (own G) (S .memory) (S .memory) (S .policy) _≡_ _≡_ (λ p. Unit {0}) (itself G (S .memory)) (closed G (S .policy)) n b (left b n) (left-budget b n h) d) p tt st (recount G S 0 st)
             (record { memo-alike = refl; history-same = refl; nodes-off = omega arith })
 
     -- a run that gives a value stays within the budget

@@ -93,5 +93,5 @@ module _ (P : Game) (score : P .Pos → ℤ) (low high : ℤ) (float-score : P .
       -- The memo is the same over integers and over f64.
       pub floats-in-step : (Real : P .Pos → Type 0) → Fitted s Z (int-code low high) key (Ranged low high) Real →
           InStep Z W (memory s Z (int-code low high) key) (memory s (valued Z W) (float-code float-low float-high) key) Stands
-          (SameMemo s Z (int-code low high) key (Ranged low high))
+          (SameMemo s Z (int-code low high) key (Ranged low high)) Real
       floats-in-step Real F = memo-in-step s Z W (int-code low high) (float-code float-low float-high) key (Ranged low high) Stands floats-related floats-coded Real F R

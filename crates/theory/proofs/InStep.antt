@@ -12,7 +12,7 @@ use Rattle.rules.specs.Search.{Interval, Entry, window, Memory, Policy, Setting
 use Rattle.rules.specs.Drivers.{Scale, Driver, single, scout, mtd, rung, onward, point, below, upto, sided, begun, stepped, mtd-next, scout-from, mtd-test, mtd-from, mtd-begin, run}
 use Rattle.rules.specs.Choose.{Choice, no-move, no-child, key, known-move, remembered, matched, child-run, check-played, check, root, chosen}
 use Rattle.theory.specs.Counted.{choose-counted}
-use Rattle.theory.proofs.Simulation.{Both, Intervals, Entries, window-rel, Related, InStep, S, T, Ends, Steps, StepSearch, steps-then, eqv-same, steps-value, Budgets, alpha-beta-steps}
+use Rattle.theory.proofs.Simulation.{Both, Intervals, Entries, window-rel, Related, InStep, Closed, S, T, Ends, Steps, StepSearch, steps-then, eqv-same, steps-value, Budgets, alpha-beta-steps}
 
 module _ (G : Game) (W : Values (G .Pos)) (Rel : G .Value → W .Value → Type 0) where
   -- scales of related values, whose middles are tested alike
@@ -45,8 +45,9 @@ module _ (G : Game) (W : Values (G .Pos)) (Rel : G .Value → W .Value → Type 
   Choices (key t v) (key u x) = (t ≡ u) × Rel v x
 
 module _ (G : Game) (W : Values (G .Pos)) (μ : Memory G) (ν : Memory (valued G W)) (π : Policy (G .Pos)) (Rel : G .Value → W .Value → Type 0) (Alike : μ .Memo → ν .Memo → Type 0)
-    (I : InStep G W μ ν Rel Alike) (off : ℕ) where
+    (Real : G .Pos → Type 0) (I : InStep G W μ ν Rel Alike Real) (K : Closed G Real π) (off : ℕ) where
   open InStep I using (get-rel)
+  open Closed K using (play-real)
   open Related (I .values) using (leb-same, low-rel, high-rel, score-rel)
 
   abbrev SG : Settings G
@@ -87,12 +88,12 @@ module _ (G : Game) (W : Values (G .Pos)) (μ : Memory G) (ν : Memory (valued G
     unfolding upto
     upto-same v x h = point-same _ (λ y. W .leb y x) (λ n. leb-same _ _ _ _ (at-rel n) h) (suc (σ .gaps)) 0 ∙ ap (λ (g : ℕ). point HW τ (λ y. W .leb y x) (suc g) 0) gaps-same
 
-    module _ (f : Search G SG) (g : Search HW TH) (ih : StepSearch G W μ ν π Rel Alike off f g) (p : G .Pos) where
+    module _ (f : Search G SG) (g : Search HW TH) (ih : StepSearch G W μ ν π Rel Alike Real off f g) (p : G .Pos) (real : Real p) where
       scout-steps : (s : Side) (r n : ℕ) → InStepRun Rel (scout-from G SG σ f p s r n) (scout-from HW TH τ g p s r n)
       unfolding scout-from stepped
-      scout-steps s zero n = steps-value G W μ ν π Rel Alike I off Rel (rung G σ s n) (rung HW τ s n) (rung-rel s n)
+      scout-steps s zero n = steps-value G W μ ν π Rel Alike Real I K off Rel (rung G σ s n) (rung HW τ s n) (rung-rel s n)
       scout-steps s (suc r) n =
-          steps-then G W μ ν π Rel Alike off Rel Rel (f p w) (g p x) _ _ (ih p w x wx) (λ v u h. rw (onward-same s w x v u wx h) (go (scout-steps s r (suc n)) (onward HW τ s x u)))
+          steps-then G W μ ν π Rel Alike off Rel Rel (f p w) (g p x) _ _ (ih p w x real wx) (λ v u h. rw (onward-same s w x v u wx h) (go (scout-steps s r (suc n)) (onward HW τ s x u)))
         where
           w : Interval (G .Value)
           w = window s (rung G σ s n) (rung G σ s (suc n))
@@ -110,7 +111,7 @@ module _ (G : Game) (W : Values (G .Pos)) (μ : Memory G) (ν : Memory (valued G
 
       mtd-steps : (r i j : ℕ) → InStepRun Rel (mtd-from G SG σ f p r i j) (mtd-from HW TH τ g p r i j)
       unfolding mtd-from mtd-test mtd-next
-      mtd-steps zero i j = steps-value G W μ ν π Rel Alike I off Rel (σ .at i) (τ .at i) (at-rel i)
+      mtd-steps zero i j = steps-value G W μ ν π Rel Alike Real I K off Rel (σ .at i) (τ .at i) (at-rel i)
       mtd-steps (suc r) i j = go (mtd-steps r) (ltb i j)
         where
           next : ((i j : ℕ) → InStepRun Rel (mtd-from G SG σ f p r i j) (mtd-from HW TH τ g p r i j)) → (v : G .Value) (u : W .Value) → Rel v u → (y : Bool) →
@@ -120,10 +121,10 @@ module _ (G : Game) (W : Values (G .Pos)) (μ : Memory G) (ν : Memory (valued G
 
           go : ((i j : ℕ) → InStepRun Rel (mtd-from G SG σ f p r i j) (mtd-from HW TH τ g p r i j)) → (y : Bool) →
               InStepRun Rel (mtd-test G SG σ f p y i j (mtd-from G SG σ f p r)) (mtd-test HW TH τ g p y i j (mtd-from HW TH τ g p r))
-          go rest false = steps-value G W μ ν π Rel Alike I off Rel (σ .at i) (τ .at i) (at-rel i)
+          go rest false = steps-value G W μ ν π Rel Alike Real I K off Rel (σ .at i) (τ .at i) (at-rel i)
           go rest true =
               let k = i + (j - i - 1) / 2 in
-              steps-then G W μ ν π Rel Alike off Rel Rel _ _ _ _ (ih p (record { lo = σ .at k; hi = σ .at (suc k) }) (record { lo = τ .at k; hi = τ .at (suc k) }) (record { lo-rel = at-rel k; hi-rel = at-rel (suc k) }))
+              steps-then G W μ ν π Rel Alike off Rel Rel _ _ _ _ (ih p (record { lo = σ .at k; hi = σ .at (suc k) }) (record { lo = τ .at k; hi = τ .at (suc k) }) real (record { lo-rel = at-rel k; hi-rel = at-rel (suc k) }))
               (λ v u h. rw (leb-same _ _ _ _ (at-rel (suc k)) h) (next rest v u h (W .leb (τ .at (suc k)) u)))
 
       -- from the same numbers
@@ -153,17 +154,17 @@ module _ (G : Game) (W : Values (G .Pos)) (μ : Memory G) (ν : Memory (valued G
       go none = record { agree = refl; near = n }
       go (some s) = h s st z n
 
-  pub run-steps : (δ : Driver G) (ε : Driver HW) → Drivers G W Rel δ ε → (f : Search G SG) (g : Search HW TH) → StepSearch G W μ ν π Rel Alike off f g → (p : G .Pos) → InStepRun Rel (run G SG δ f p) (run HW TH ε g p)
+  pub run-steps : (δ : Driver G) (ε : Driver HW) → Drivers G W Rel δ ε → (f : Search G SG) (g : Search HW TH) → StepSearch G W μ ν π Rel Alike Real off f g → (p : G .Pos) → Real p → InStepRun Rel (run G SG δ f p) (run HW TH ε g p)
   unfolding run
-  run-steps single single d f g ih p st z n = ih p _ _ (record { lo-rel = low-rel; hi-rel = high-rel }) st z n
-  run-steps single (scout τ) d f g ih p st z n = absurd d
-  run-steps single (mtd τ) d f g ih p st z n = absurd d
-  run-steps (scout σ) single d f g ih p st z n = absurd d
-  run-steps (scout σ) (scout τ) d f g ih p st z n = begun-steps p _ (G .moves p) _ _ (λ s. scout-steps-at σ τ d f g ih p s (σ .gaps) (τ .gaps) (d .gaps-same)) st z n
-  run-steps (scout σ) (mtd τ) d f g ih p st z n = absurd d
-  run-steps (mtd σ) single d f g ih p st z n = absurd d
-  run-steps (mtd σ) (scout τ) d f g ih p st z n = absurd d
-  run-steps (mtd σ) (mtd τ) d f g ih p st z n = begun-steps p _ (G .moves p) _ _ (λ s a b k. mtd-begin-steps σ τ d f g ih p _ _ (get-rel (a .memo) (b .memo) p (k .memo-alike)) a b k) st z n
+  run-steps single single d f g ih p real st z n = ih p _ _ real (record { lo-rel = low-rel; hi-rel = high-rel }) st z n
+  run-steps single (scout τ) d f g ih p real st z n = absurd d
+  run-steps single (mtd τ) d f g ih p real st z n = absurd d
+  run-steps (scout σ) single d f g ih p real st z n = absurd d
+  run-steps (scout σ) (scout τ) d f g ih p real st z n = begun-steps p _ (G .moves p) _ _ (λ s. scout-steps-at σ τ d f g ih p real s (σ .gaps) (τ .gaps) (d .gaps-same)) st z n
+  run-steps (scout σ) (mtd τ) d f g ih p real st z n = absurd d
+  run-steps (mtd σ) single d f g ih p real st z n = absurd d
+  run-steps (mtd σ) (scout τ) d f g ih p real st z n = absurd d
+  run-steps (mtd σ) (mtd τ) d f g ih p real st z n = begun-steps p _ (G .moves p) _ _ (λ s a b k. mtd-begin-steps σ τ d f g ih p real _ _ (get-rel (a .memo) (b .memo) p real (k .memo-alike)) a b k) st z n
 
   -- The choice of the key, over runs in step.
 
@@ -174,25 +175,25 @@ module _ (G : Game) (W : Values (G .Pos)) (μ : Memory G) (ν : Memory (valued G
   remembered-same l (some e) none h = absurd h
   remembered-same l (some e) (some o) h = ap (known-move l) (h .best-same)
 
-  module _ (f : G .Pos → Run G SG (G .Value)) (g : G .Pos → Run HW TH (W .Value)) (ih : (p : G .Pos) → InStepRun Rel (f p) (g p)) (p : G .Pos) where
-    child-steps : (q : G .Pos) (l : List ℕ) → InStepRun Rel (child-run G SG f q l) (child-run HW TH g q l)
+  module _ (f : G .Pos → Run G SG (G .Value)) (g : G .Pos → Run HW TH (W .Value)) (ih : (p : G .Pos) → Real p → InStepRun Rel (f p) (g p)) (p : G .Pos) (real : Real p) where
+    child-steps : (q : G .Pos) → Real q → (l : List ℕ) → InStepRun Rel (child-run G SG f q l) (child-run HW TH g q l)
     unfolding child-run
-    child-steps q [] st z n = record { agree = score-rel q; near = n }
-    child-steps q (t ∷ l) st z n = ih q st z n
+    child-steps q r [] st z n = record { agree = score-rel q; near = n }
+    child-steps q r (t ∷ l) st z n = ih q r st z n
 
     check-steps : (v : G .Value) (x : W .Value) → Rel v x → (l : List ℕ) → InStepRun (Choices G W Rel) (check G SG f p v l) (check HW TH g p x l)
     unfolding check check-played matched
     check-steps v x h [] st z n = record { agree = tt; near = n }
-    check-steps v x h (t ∷ l) st z n = go (check-steps v x h l) (G .play p t)
+    check-steps v x h (t ∷ l) st z n = go (check-steps v x h l) (G .play p t) refl
       where
         match : InStepRun (Choices G W Rel) (check G SG f p v l) (check HW TH g p x l) → (y : Bool) → InStepRun (Choices G W Rel) (matched G SG y t v (check G SG f p v l)) (matched HW TH y t x (check HW TH g p x l))
         match rest true st z n = record { agree = (refl, h); near = n }
         match rest false st z n = rest st z n
 
-        go : InStepRun (Choices G W Rel) (check G SG f p v l) (check HW TH g p x l) → (y : Played (G .Pos)) → Ends G W μ ν π Rel Alike off (Choices G W Rel) (check-played G SG f y t v (check G SG f p v l) st) (check-played HW TH g y t x (check HW TH g p x l) z)
-        go rest (stopped r) = record { agree = refl; near = n }
-        go rest (to q) =
-            steps-then G W μ ν π Rel Alike off Rel (Choices G W Rel) (child-run G SG f q (G .moves q)) (child-run HW TH g q (G .moves q)) _ _ (child-steps q (G .moves q))
+        go : InStepRun (Choices G W Rel) (check G SG f p v l) (check HW TH g p x l) → (y : Played (G .Pos)) → G .play p t ≡ y → Ends G W μ ν π Rel Alike off (Choices G W Rel) (check-played G SG f y t v (check G SG f p v l) st) (check-played HW TH g y t x (check HW TH g p x l) z)
+        go rest (stopped r) e = record { agree = refl; near = n }
+        go rest (to q) e =
+            steps-then G W μ ν π Rel Alike off Rel (Choices G W Rel) (child-run G SG f q (G .moves q)) (child-run HW TH g q (G .moves q)) _ _ (child-steps q (play-real p t q real e) (G .moves q))
             (λ u w k. rw (eqv-same G W Rel (I .values) u v w x k h) (match rest (eqv HW w x))) st z n
 
     check-steps-at : (v : G .Value) (x : W .Value) → Rel v x → (l m : List ℕ) → l ≡ m → InStepRun (Choices G W Rel) (check G SG f p v l) (check HW TH g p x m)
@@ -207,19 +208,19 @@ module _ (G : Game) (W : Values (G .Pos)) (μ : Memory G) (ν : Memory (valued G
         go : (o : Option Side) → Ends G W μ ν π Rel Alike off (Choices G W Rel) (root G SG f p o st) (root HW TH g p o z)
         go none = record { agree = refl; near = n }
         go (some s) =
-            steps-then G W μ ν π Rel Alike off Rel (Choices G W Rel) (f p) (g p) _ _ (ih p)
-            (λ v x h a b k. check-steps-at v x h _ _ (ap (λ (y : List ℕ). y ++ G .moves p) (remembered-same (G .moves p) _ _ (get-rel (a .memo) (b .memo) p (k .memo-alike)))) a b k) st z n
+            steps-then G W μ ν π Rel Alike off Rel (Choices G W Rel) (f p) (g p) _ _ (ih p real)
+            (λ v x h a b k. check-steps-at v x h _ _ (ap (λ (y : List ℕ). y ++ G .moves p) (remembered-same (G .moves p) _ _ (get-rel (a .memo) (b .memo) p real (k .memo-alike)))) a b k) st z n
 
 -- The whole call, with one budget, runs in step.
 module _ (G : Game) (W : Values (G .Pos)) (μ : Memory G) (ν : Memory (valued G W)) (π : Policy (G .Pos)) (Rel : G .Value → W .Value → Type 0) (Alike : μ .Memo → ν .Memo → Type 0)
-    (I : InStep G W μ ν Rel Alike) where
-  same-budget : (b : Option ℕ) → Budgets G W μ ν π Rel Alike I 0 b b
+    (Real : G .Pos → Type 0) (I : InStep G W μ ν Rel Alike Real) (K : Closed G Real π) where
+  same-budget : (b : Option ℕ) → Budgets G W μ ν π Rel Alike Real I K 0 b b
   unfolding passes
   same-budget none k = refl
   same-budget (some b) k = let e : 0 + k ≡ k = omega arith in ap (ltb b) e
 
-  pub choose-counted-steps : (δ : Driver G) (ε : Driver (valued G W)) → Drivers G W Rel δ ε → (b : Option ℕ) (d : ℕ) (p : G .Pos) →
+  pub choose-counted-steps : (δ : Driver G) (ε : Driver (valued G W)) → Drivers G W Rel δ ε → (b : Option ℕ) (d : ℕ) (p : G .Pos) → Real p →
       Steps G W μ ν π Rel Alike 0 (Choices G W Rel) (choose-counted G (S G W μ ν π Rel Alike) δ b d p) (choose-counted (valued G W) (T G W μ ν π Rel Alike) ε b d p)
   unfolding choose-counted
-  choose-counted-steps δ ε h b d p =
-      chosen-steps G W μ ν π Rel Alike I 0 _ _ (λ q. run-steps G W μ ν π Rel Alike I 0 δ ε h _ _ (alpha-beta-steps G W μ ν π Rel Alike I 0 b b (same-budget b) d) q) p _ (G .moves p)
+  choose-counted-steps δ ε h b d p real =
+      chosen-steps G W μ ν π Rel Alike Real I K 0 _ _ (λ q r. run-steps G W μ ν π Rel Alike Real I K 0 δ ε h _ _ (alpha-beta-steps G W μ ν π Rel Alike Real I K 0 b b (same-budget b) d) q r) p real _ (G .moves p)

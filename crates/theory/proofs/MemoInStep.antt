@@ -37,7 +37,7 @@ module _ (s : Shape) (G : Game) (W : Values (G .Pos)) (C : Code (G .Value)) (D :
     unfolding or-else number-at
     bound-rel m i shift at a x (v, e, h) = let (y, k, r) = number-rel v e in rw (h, number-bits v e, k) r
 
-    module _ (m : Memo) (w : Well s G C key Ok m) (p : G .Pos) where
+    module _ (m : Memo) (w : Well s G C key Ok m) (p : G .Pos) (real : Real p) where
       found-rel : (l : Look) → Found s some-way some-bucket m (key p) l → Both (Entries Rel) (found s G C key m p l) (found s H D key m p l)
       unfolding found read
       found-rel (hit i) (l, f) =
@@ -70,11 +70,11 @@ module _ (s : Shape) (G : Game) (W : Values (G .Pos)) (C : Code (G .Value)) (D :
           kept-same (s .compact) _ _ _ _ (bits-same _ _ (r .bounds-rel .lo-rel)) (bits-same _ _ (r .bounds-rel .hi-rel)) (r .best-same)
 
       stored-well : (e : Entry (G .Value)) (f : Entry (W .Value)) (nodes : ℕ) → Entries Rel e f → Well s G C key Ok (memo-store s G C key m p e nodes)
-      stored-well e f nodes h = store-well s G C key Ok Real F R m w p e nodes (rel-ok _ _ (h .bounds-rel .lo-rel)) (rel-ok _ _ (h .bounds-rel .hi-rel))
+      stored-well e f nodes h = store-well s G C key Ok Real F R m w p e nodes (rel-ok _ _ (h .bounds-rel .lo-rel)) (rel-ok _ _ (h .bounds-rel .hi-rel)) real
 
-    pub memo-in-step : InStep G W (memory s G C key) (memory s (valued G W) D key) Rel (SameMemo s G C key Ok)
+    pub memo-in-step : InStep G W (memory s G C key) (memory s (valued G W) D key) Rel (SameMemo s G C key Ok) Real
     memo-in-step = record {
       values = related;
-      get-rel = λ m n p (e, w). rw (← e) (get-related m w p);
-      store-alike = λ m n p e f nodes (k, w) h. (store-same m w p e f nodes h ∙ ap (λ (x : Memo). memo-store s H D key x p f nodes) k, stored-well m w p e f nodes h);
+      get-rel = λ m n p r (e, w). rw (← e) (get-related m w p r);
+      store-alike = λ m n p e f nodes r (k, w) h. (store-same m w p r e f nodes h ∙ ap (λ (x : Memo). memo-store s H D key x p f nodes) k, stored-well m w p r e f nodes h);
     }
