@@ -80,7 +80,7 @@ module _ (G : Game) (R : Rules G) where
         go false [] = tt
         go false (u ∷ l) = side (mover q) refl
 
-    -- `lost` meets the first law that `Settings` asks of it
+    -- `lost` meets the first law that `Orderly` asks of it
     pub lost-forces : (s : Side) (q : Pos) → lost G candidates s q ≡ drop → Forces G (opp s) (worst G s) q
     lost-forces s q e = rw e at (lost-says s q)
 

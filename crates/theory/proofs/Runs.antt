@@ -163,7 +163,7 @@ module _ (G : Game) (S : Settings G) where
     mtd-begin-valued σ none = mtd-valued σ _ _ _
     mtd-begin-valued σ (some e) = mtd-valued σ _ _ _
 
-  -- a position with at most 64 moves, all of one side
+  -- a position with few enough moves, all of one side
   module _ (below : Pos → Type 0) (p : Pos) (h : Level G below p) where
     pub not-wide : ltb max-moves (length (moves p)) ≡ true → ⊥
     not-wide e = let k = ltb-true max-moves (length (moves p)) e in let n = h .narrow in omega arith

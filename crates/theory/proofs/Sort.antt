@@ -1,4 +1,4 @@
--- Sorting rearranges: `Settings` asks this of its order.
+-- Sorting rearranges, as `Orderly` asks of an order.
 -- Assumes nothing.
 use mathlib.Core.Path.{_≡_}
 use mathlib.Core.Bool.{Bool, true, false}

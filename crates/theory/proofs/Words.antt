@@ -52,6 +52,3 @@ module _ (t lo hi work gen : ℕ) (ht : t < 2 ^ 32) (hl : lo < 256) (hh : hi < 2
 
   pub meta-hi : field 40 8 meta ≡ hi
   meta-hi = omega arith
-
-  pub meta-engine : meta < 2 ^ 63
-  meta-engine = omega arith
