@@ -84,7 +84,7 @@ module _ (G : Game) (S : Settings G) (M : Lawful G S) (d : ℕ) where
     chosen-valued true (t ∷ l) w e h st = not-wide G S (Regular G d) p h w
     chosen-valued false (t ∷ l) w e h st = let k = turn-of G S (Regular G d) p h t l e in rw (k .moves-of) (root-valued h k st)
 
-  pub choose-counted-valued : (δ : Driver G) (p : Pos) → Regular G (suc d) p → ValuedRun G S (choose-counted G S δ none (suc d) p)
+  choose-counted-valued : (δ : Driver G) (p : Pos) → Regular G (suc d) p → ValuedRun G S (choose-counted G S δ none (suc d) p)
   unfolding choose-counted
   choose-counted-valued δ p h = chosen-valued (run G S δ (alpha-beta G S none (suc d))) (run-valued G S M d δ) p _ (moves p) refl refl h
 

@@ -53,7 +53,7 @@ module _ (G : Game) (R : Rules G) where
       (pick G s a b, best-more G R s p t (u ∷ l) a b k r, pick-elim G R (λ x. x ≡ v → ⊥) s a b ne ne′)
 
   -- Some move's child has the value of the position.
-  pub some-child : (s : Side) (p : Pos) (v : Value) → mover p ≡ some s → Exact G v p → ((t : ℕ) → t ∈ moves p → Misses G p v t) → ⊥
+  some-child : (s : Side) (p : Pos) (v : Value) → mover p ≡ some s → Exact G v p → ((t : ℕ) → t ∈ moves p → Misses G p v t) → ⊥
   some-child s p v m x h = go (moves p) refl h
     where
       go : (l : List ℕ) → moves p ≡ l → ((t : ℕ) → t ∈ l → Misses G p v t) → ⊥

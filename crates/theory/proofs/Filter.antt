@@ -1,7 +1,7 @@
 -- The filters' tests: a win is a final position at the best bound, and a child that `lost` drops is one from which the other side
 -- forces the worst. Under the premises on play `lost` refuses nothing.
 -- Assumes nothing.
-use mathlib.Core.Path.{_≡_, refl}
+use mathlib.Core.Path.{_≡_, refl, sym, _∙_}
 use mathlib.Core.Bool.{Bool, true, false, true≢false}
 use mathlib.Core.Option.{Option, none, some}
 use mathlib.Core.List.{List, [], _∷_, List·Memᴰ·head, List·Memᴰ·tail}
@@ -15,11 +15,12 @@ use Rattle.rules.specs.declared.Refusal.{Refusal}
 use Rattle.rules.specs.Limits.{max-moves}
 use Rattle.rules.specs.Game.{Game, Side, max, min, opp, Played, to, stopped, _∈_, Le, worst, eqv}
 use Rattle.rules.specs.Filter.{Verdict, keep, drop, refuse, over, wins, replied, reply-played, reply-wins, replies, replier, lost-listed, lost}
+use Rattle.rules.specs.Search.{Child, Policy}
 use Rattle.theory.specs.Forces.{Forces, final, own}
 use Rattle.theory.specs.Regular.{Turn, Regular}
 use Rattle.theory.proofs.Tests.{and-true}
 use Rattle.theory.proofs.Order.{le-refl, le-antisym}
-use Rattle.theory.proofs.Laws.{Rules}
+use Rattle.theory.proofs.Laws.{Rules, Orderly}
 
 module _ (G : Game) (R : Rules G) where
   open Game G using (leb, Pos, moves, mover, play, score)
@@ -81,7 +82,7 @@ module _ (G : Game) (R : Rules G) where
         go false (u ∷ l) = side (mover q) refl
 
     -- `lost` meets the first law that `Orderly` asks of it
-    pub lost-forces : (s : Side) (q : Pos) → lost G candidates s q ≡ drop → Forces G (opp s) (worst G s) q
+    lost-forces : (s : Side) (q : Pos) → lost G candidates s q ≡ drop → Forces G (opp s) (worst G s) q
     lost-forces s q e = rw e at (lost-says s q)
 
     -- and the second
@@ -125,5 +126,14 @@ module _ (G : Game) (R : Rules G) where
             ends (inl x) = absurd (true≢false (cc))
             ends (inr t) = turn t
 
-    pub lost-regular : (d : ℕ) (s : Side) (q : Pos) (r : Refusal) → Regular G d q → lost G candidates s q ≡ refuse r → ⊥
+    lost-regular : (d : ℕ) (s : Side) (q : Pos) (r : Refusal) → Regular G d q → lost G candidates s q ≡ refuse r → ⊥
     lost-regular d s q r h e = rw e at (lost-decides d s q h)
+
+    -- So an order that rearranges, with a filter that is `lost`, is orderly.
+    pub orderly : (π : Policy Pos) → ((h : π .History) (b : Option ℕ) (s : Side) (l : List (Child Pos)) (c : Child Pos) → (c ∈ l → c ∈ π .arrange h b s l) × (c ∈ π .arrange h b s l → c ∈ l)) →
+        ((s : Side) (q : Pos) → π .lost s q ≡ lost G candidates s q) → Orderly G π
+    orderly π rearranges same = record {
+      arranged = rearranges;
+      lost-forces = λ s q e. lost-forces s q (sym (same s q) ∙ e);
+      lost-regular = λ d s q r h e. lost-regular d s q r h (sym (same s q) ∙ e);
+    }

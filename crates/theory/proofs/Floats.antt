@@ -36,7 +36,7 @@ int-reads {z} h =
     let w = whole (h .is-small) in
     rw (bits-back w, to-signed w, eq-eqb (toBits binary64 (wholeF z)) (toBits binary64 (wholeF z)) refl, h .from-low, h .to-high) refl
 
-pub float-reads : {low high z : ℤ} {x y : Float} → Whole x low → Whole y high → Ranged low high z → float-number x y (int-bits z) ≡ some (wholeF z)
+float-reads : {low high z : ℤ} {x y : Float} → Whole x low → Whole y high → Ranged low high z → float-number x y (int-bits z) ≡ some (wholeF z)
 unfolding float-number int-bits
 float-reads v u h =
     let w = whole (h .is-small) in
@@ -65,7 +65,7 @@ module _ (P : Game) (score : P .Pos → ℤ) (low high : ℤ) (float-score : P .
     pub end-ranged : {z : ℤ} → End Z z → Ranged low high z
     end-ranged e = record { is-small = end-small e; from-low = end-inside Z R e max .holds; to-high = end-inside Z R e min .holds }
 
-    pub floats-related : Related Z W Stands
+    floats-related : Related Z W Stands
     floats-related = record {
       leb-same = λ a b x y h k. sym (le-whole (h .is-whole) (k .is-whole));
       low-rel = record { is-whole = low-whole; ranged = end-ranged (bound max) };

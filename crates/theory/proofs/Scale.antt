@@ -27,7 +27,7 @@ module _ (G : Game) (R : Rules G) (σ : Scale G) (T : Scaled G σ) where
   rung-lt max i j h k = ascending i j h k
   rung-lt min i j h k = flip-lt G R (ascending (gaps - j) (gaps - i) (omega arith) (omega arith))
 
-  pub rung-le : (s : Side) (i j : ℕ) → i ≤ j → j ≤ gaps → Le G s (rung G σ s i) (rung G σ s j)
+  rung-le : (s : Side) (i j : ℕ) → i ≤ j → j ≤ gaps → Le G s (rung G σ s i) (rung G σ s j)
   rung-le s i j h k = go (eq-or-lt-of-le h)
     where
       go : (i ≡ j) ⊎ (i < j) → Le G s (rung G σ s i) (rung G σ s j)
@@ -38,7 +38,7 @@ module _ (G : Game) (R : Rules G) (σ : Scale G) (T : Scaled G σ) where
   pub rung-le-inv : (s : Side) (i j : ℕ) → i ≤ gaps → Le G s (rung G σ s i) (rung G σ s j) → i ≤ j
   rung-le-inv s i j k h = let l : i < suc j = lt-of-not-le (λ (x : suc j ≤ i). lt-not-le G R (rung-lt s j i x k) h) in omega arith
 
-  pub rung-lt-inv : (s : Side) (i j : ℕ) → i ≤ gaps → Lt G s (rung G σ s i) (rung G σ s j) → i < j
+  rung-lt-inv : (s : Side) (i j : ℕ) → i ≤ gaps → Lt G s (rung G σ s i) (rung G σ s j) → i < j
   rung-lt-inv s i j k h = lt-of-not-le (λ (x : j ≤ i). lt-not-le G R h (rung-le s j i x k))
 
   pub rung-worst : (s : Side) → rung G σ s 0 ≡ worst G s

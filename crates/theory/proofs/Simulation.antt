@@ -55,7 +55,7 @@ module _ {A C : Type 0} (Rel : A → C → Type 0) where
   Recalls (unknown w f) (known x) = ⊥
   Recalls (unknown w f) (unknown z g) = Intervals w z × (f ≡ g)
 
-  pub edge-rel : {i : Interval A} {j : Interval C} → Intervals i j → (s : Side) → Rel (edge i s) (edge j s)
+  edge-rel : {i : Interval A} {j : Interval C} → Intervals i j → (s : Side) → Rel (edge i s) (edge j s)
   edge-rel h max = h .lo-rel
   edge-rel h min = h .hi-rel
 
@@ -73,18 +73,18 @@ pub record Related (G : Game) (W : Values (G .Pos)) (Rel : G .Value → W .Value
 module _ (G : Game) (W : Values (G .Pos)) (Rel : G .Value → W .Value → Type 0) (related : Related G W Rel) where
   open Related related using (leb-same, low-rel, high-rel, score-rel)
 
-  pub leq-same : (s : Side) (a b : G .Value) (x y : W .Value) → Rel a x → Rel b y → leq G s a b ≡ leq (valued G W) s x y
+  leq-same : (s : Side) (a b : G .Value) (x y : W .Value) → Rel a x → Rel b y → leq G s a b ≡ leq (valued G W) s x y
   leq-same max a b x y h k = leb-same a b x y h k
   leq-same min a b x y h k = leb-same b a y x k h
 
   pub eqv-same : (a b : G .Value) (x y : W .Value) → Rel a x → Rel b y → eqv G a b ≡ eqv (valued G W) x y
   eqv-same a b x y h k = rw (leb-same a b x y h k, leb-same b a y x k h) refl
 
-  pub worst-rel : (s : Side) → Rel (worst G s) (worst (valued G W) s)
+  worst-rel : (s : Side) → Rel (worst G s) (worst (valued G W) s)
   worst-rel max = low-rel
   worst-rel min = high-rel
 
-  pub pick-rel : (s : Side) (a b : G .Value) (x y : W .Value) → Rel a x → Rel b y → Rel (pick G s a b) (pick (valued G W) s x y)
+  pick-rel : (s : Side) (a b : G .Value) (x y : W .Value) → Rel a x → Rel b y → Rel (pick G s a b) (pick (valued G W) s x y)
   unfolding pick
   pick-rel s a b x y h k = rw (leq-same s b a y x k h) (go (leq (valued G W) s y x))
     where
