@@ -1,0 +1,140 @@
+-- The call as a whole, under the premises on play: with no budget it is not refused, and its key leads to a child of the same minimax
+-- value as the root. With a budget it does the same if the count stays within it, and else is spent (`choose-counted-budgeted`).
+-- Assumes nothing.
+use mathlib.Core.Path.{_≡_, refl}
+use mathlib.Core.Bool.{Bool, true, false}
+use mathlib.Core.Option.{none, some}
+use mathlib.Core.List.{List, [], _∷_, List·Memᴰ·head, List·Memᴰ·tail, List·Memᴰ·append-cases, List·Memᴰ·not-nil}
+use mathlib.Core.Logic.{_⊎_, inl, inr}
+use Prim.Native.Nat.{ℕ, suc, _≤_, _<_}
+use lib.Dec.{ltb}
+use lib.ListN.{length}
+use Rattle.rules.specs.Limits.{max-moves}
+use Rattle.rules.specs.Game.{Game, to, _∈_, eqv}
+use Rattle.rules.specs.Minimax.{Worth}
+use Rattle.rules.specs.Search.{Outcome, value, spent, refused, Memory, Settings, State, Run, alpha-beta}
+use Rattle.rules.specs.Drivers.{Driver, run}
+use Rattle.rules.specs.Choose.{Choice, no-move, no-child, key, child-run, matched, check-played, check, remembered, root, chosen}
+use Rattle.theory.specs.Counted.{choose-counted}
+use Rattle.theory.specs.Forces.{Exact}
+use Rattle.theory.specs.Regular.{Turn, Regular}
+use Rattle.theory.proofs.Forces.{Leads, exact-unique}
+use Rattle.theory.proofs.Minimax.{worth-exact, minimax-worth, minimax-some}
+use Rattle.theory.proofs.Answer.{Sound, Gives}
+use Rattle.theory.proofs.Budget.{Within, same, short}
+use Rattle.theory.proofs.Regular.{Valued, valued-then}
+use Rattle.theory.proofs.Choose.{IsKey, Chosen, remembered-in, choose-counted-sound}
+use Rattle.theory.proofs.Runs.{ValuedRun, not-wide, turn-of, run-valued, regular-more, choose-counted-budgeted}
+use Rattle.theory.proofs.Laws.{Tabled, Lawful, Driven}
+
+module _ (G : Game) where
+  open Game G using (Value, Pos, moves, play)
+
+  -- the key of `p`: a move to a child that is worth what `p` is
+  pub record MinimaxKey (p : Pos) (t : ℕ) (v : Value) : Type 0 where
+    pub is-move : t ∈ moves p
+    pub next : Pos
+    pub plays : play p t ≡ to next
+    pub root-worth : Worth G p v
+    pub child-worth : Worth G next v
+
+module _ (G : Game) (S : Settings G) where
+  open Game G using (Value, Pos)
+
+  -- How a call with budget `B` ends, `y`, beside the same call with none, `x`: exact, at the count N of `x`, if N is within the
+  -- budget; else spent, at one past it.
+  pub data Answered (B : ℕ) (p : Pos) (x y : Outcome (Choice Value) × State S) : Type 0 where
+    exact : x .1 .nodes ≤ B → y ≡ x → (t : ℕ) (v : Value) → y .0 ≡ value (key t v) → MinimaxKey G p t v → Answered B p x y
+    over : B < x .1 .nodes → y .0 ≡ spent → y .1 .nodes ≡ suc B → Answered B p x y
+
+module _ (G : Game) (S : Settings G) (M : Lawful G S) (d : ℕ) where
+  open Game G using (Value, Pos, moves, play)
+  open Memory (S .memory) using (get)
+  open Lawful M using (rules as R)
+  open Tabled (M .table) using (Real)
+
+  module _ (r : Pos → Run G S Value) (ih : (q : Pos) → Regular G (suc d) q → ValuedRun G S (r q)) (p : Pos) where
+    child-valued : (q : Pos) (l : List ℕ) → Regular G (suc d) q → ValuedRun G S (child-run G S r q l)
+    unfolding child-run
+    child-valued q [] h st = tt
+    child-valued q (t ∷ l) h st = ih q h st
+
+    check-valued : (v : Value) (l : List ℕ) → ((t : ℕ) → t ∈ l → (q : Pos) × (play p t ≡ to q) × Regular G d q) → ValuedRun G S (check G S r p v l)
+    unfolding check check-played matched
+    check-valued v [] h st = tt
+    check-valued v (t ∷ l) h st =
+        let (q, e, k) = h t (List·Memᴰ·head refl) in
+        rw e (valued-then G S _ _ st (child-valued q (moves q) (regular-more G d q k) st) (λ x z. go (check-valued v l (λ u i. h u (List·Memᴰ·tail i))) (eqv G x v) z))
+      where
+        go : ValuedRun G S (check G S r p v l) → (x : Bool) → ValuedRun G S (matched G S x t v (check G S r p v l))
+        go rest true z = tt
+        go rest false z = rest z
+
+    root-valued : Regular G (suc d) p → (t : Turn G (Regular G d) p) → ValuedRun G S (root G S r p (some (t .side)))
+    unfolding root
+    root-valued h t st = valued-then G S _ _ st (ih p h st) (λ v z. check-valued v _ (λ u i. t .next u (either z u (List·Memᴰ·append-cases (remembered G S (moves p) (get (z .memo) p)) i))) z)
+      where
+        either : (z : State S) (u : ℕ) → (u ∈ remembered G S (moves p) (get (z .memo) p)) ⊎ (u ∈ moves p) → u ∈ moves p
+        either z u (inl i) = remembered-in G S (moves p) (get (z .memo) p) u i
+        either z u (inr i) = i
+
+    chosen-valued : (b : Bool) (l : List ℕ) → ltb max-moves (length (moves p)) ≡ b → moves p ≡ l → Regular G (suc d) p → ValuedRun G S (chosen G S r p b l)
+    unfolding chosen
+    chosen-valued b [] w e h st = tt
+    chosen-valued true (t ∷ l) w e h st = not-wide G S (Regular G d) p h w
+    chosen-valued false (t ∷ l) w e h st = let k = turn-of G S (Regular G d) p h t l e in rw (k .moves-of) (root-valued h k st)
+
+  choose-counted-valued : (δ : Driver G) (p : Pos) → Regular G (suc d) p → ValuedRun G S (choose-counted G S δ none (suc d) p)
+  unfolding choose-counted
+  choose-counted-valued δ p h = chosen-valued (run G S δ (alpha-beta G S none (suc d))) (run-valued G S M d δ) p _ (moves p) refl refl h
+
+  minimax-key : (p : Pos) (m : ℕ) (v : Value) → Regular G (suc d) p → IsKey G p m v → MinimaxKey G p m v
+  minimax-key p m v h x = go (h .turn)
+    where
+      lead : Leads G p m v
+      lead = x .child-leads
+
+      -- the exact value is what a regular position is worth
+      same : (n : ℕ) (q : Pos) → Exact G v q → Regular G n q → Worth G q v
+      same n q y r =
+          let (u, e) = minimax-some G R n q r in
+          let w = minimax-worth G R n q u e in
+          rw (exact-unique G R y (worth-exact G R w)) w
+
+      child : Turn G (Regular G d) p → Regular G d (lead .next)
+      child t =
+          let (q, e, r) = t .next m (x .is-move) in
+          let f = lead .plays in
+          let z : lead .next ≡ q = cc in
+          rw z r
+
+      go : (moves p ≡ []) ⊎ Turn G (Regular G d) p → MinimaxKey G p m v
+      go (inl e) = absurd (List·Memᴰ·not-nil (rw e at (x .is-move)))
+      go (inr t) = record {
+        is-move = x .is-move;
+        next = lead .next;
+        plays = lead .plays;
+        root-worth = same (suc d) p (x .root-exact) h;
+        child-worth = same d (lead .next) (lead .exact) (child t);
+      }
+
+  -- THEOREM 4, under the premises on play.
+  pub choose-counted-minimax : (δ : Driver G) → Driven G δ → (p : Pos) (st : State S) → Regular G (suc d) p → (moves p ≡ [] → ⊥) → Real p → Sound G S M (st .memo) →
+      (m : ℕ) × (v : Value) × (choose-counted G S δ none (suc d) p st .0 ≡ value (key m v)) × MinimaxKey G p m v
+  choose-counted-minimax δ t p st h ne real sound = go (choose-counted G S δ none (suc d) p st .0) refl (choose-counted-valued δ p h st) (choose-counted-sound G S M δ t none (suc d) p st real sound .gives)
+    where
+      go : (o : Outcome (Choice Value)) → choose-counted G S δ none (suc d) p st .0 ≡ o → Valued o → Gives (Chosen G p) o → (m : ℕ) × (v : Value) × (choose-counted G S δ none (suc d) p st .0 ≡ value (key m v)) × MinimaxKey G p m v
+      go (value no-move) e v g = absurd (ne g)
+      go (value no-child) e v g = absurd g
+      go (value (key m x)) e v g = (m, x, e, minimax-key p m x h g)
+      go spent e v g = absurd v
+      go (refused x) e v g = absurd v
+
+  -- The same with a budget, from a count within it.
+  pub choose-counted-answer : (δ : Driver G) → Driven G δ → (B : ℕ) (p : Pos) (st : State S) → Regular G (suc d) p → (moves p ≡ [] → ⊥) → Real p → Sound G S M (st .memo) → st .nodes ≤ B →
+      Answered G S B p (choose-counted G S δ none (suc d) p st) (choose-counted G S δ (some B) (suc d) p st)
+  choose-counted-answer δ t B p st h ne real sound l = go (choose-counted-budgeted G S B δ (suc d) p .within st l)
+    where
+      go : Within G S B (choose-counted G S δ none (suc d) p st) (choose-counted G S δ (some B) (suc d) p st) → Answered G S B p (choose-counted G S δ none (suc d) p st) (choose-counted G S δ (some B) (suc d) p st)
+      go (same n e) = let (m, v, x, y) = choose-counted-minimax δ t p st h ne real sound in exact n e m v (rw e x) y
+      go (short n e c) = over n e c

@@ -1,0 +1,43 @@
+-- What is proved of the definitions of crate rules, for any game, memo, order and scale that meets `Laws`. `Theorems` has the results for the call.
+-- Theorem 1, `Sound`: fail-soft alpha-beta is sound. Theorem 2, `Budget` and `Runs`: the budget is exact. Theorem 3, `Drivers`: a run gives the exact
+-- value. Theorem 4, `Choose` and `Call`: the key's child has the root's value, under the premises on play the minimax value.
+-- `Memo`: the memo meets `Laws`. `Counting`: a count for each run, or one throughout. `Simulation`, `InStep`, `Floats`: f64 in step with integers.
+-- Assumes nothing.
+
+-- tests, order, and what the sides can force
+pub mod Tests
+pub mod Laws
+pub mod Order
+pub mod Forces
+pub mod Minimax
+pub mod Integers
+-- the order of moves and the filters
+pub mod Filter
+pub mod Sort
+-- the memo
+pub mod Answer
+pub mod Flat
+pub mod Words
+pub mod Dictionary
+pub mod Locate
+pub mod Memo
+pub mod Marking
+pub mod MemoExamples
+-- the search, the drivers and the choice of the key
+pub mod Row
+pub mod Children
+pub mod Sound
+pub mod Budget
+pub mod Regular
+pub mod Scale
+pub mod Drivers
+pub mod Choose
+pub mod Runs
+pub mod Call
+-- two searches in step, and the call
+pub mod Simulation
+pub mod InStep
+pub mod Counting
+pub mod MemoInStep
+pub mod Floats
+pub mod Theorems
