@@ -41,10 +41,10 @@ abbrev small : Shape
 small = shape 5 3 true
 
 abbrev put-small : Memo → ℕ → Entry Float → ℕ → Memo
-put-small m k e n = memo-store small game (float-code (whole (negsuc 4)) (whole (pos 5))) (λ p. p) m (k ∷ 0 ∷ 0 ∷ 0 ∷ []) e n
+put-small m k e n = memo-store small game (float-code (whole (negsuc 4)) (whole (pos 5))) m (k ∷ 0 ∷ 0 ∷ 0 ∷ []) (game .moves (k ∷ 0 ∷ 0 ∷ 0 ∷ [])) e n
 
 abbrev get-small : Memo → ℕ → Option (Entry Float)
-get-small m k = memo-get small game (float-code (whole (negsuc 4)) (whole (pos 5))) (λ p. p) m (k ∷ 0 ∷ 0 ∷ 0 ∷ [])
+get-small m k = memo-get small game (float-code (whole (negsuc 4)) (whole (pos 5))) m (k ∷ 0 ∷ 0 ∷ 0 ∷ []) (game .moves (k ∷ 0 ∷ 0 ∷ 0 ∷ []))
 
 -- six stores: one merged with its row, and one that replaces the weakest
 abbrev after : Memo
@@ -68,10 +68,10 @@ abbrev nth : ℕ → List ℕ
 nth i = i ∷ (i * i) ∷ (i * 32) ∷ 0 ∷ []
 
 abbrev put-wide : Memo → ℕ → ℤ → ℕ → Memo
-put-wide m i lo n = memo-store wide game (float-code (whole (negsuc 4)) (whole (pos 5))) (λ p. p) m (nth i) (entry lo (pos 5) (some i)) n
+put-wide m i lo n = memo-store wide game (float-code (whole (negsuc 4)) (whole (pos 5))) m (nth i) (game .moves (nth i)) (entry lo (pos 5) (some i)) n
 
 abbrev get-wide : Memo → ℕ → Option (Entry Float)
-get-wide m i = memo-get wide game (float-code (whole (negsuc 4)) (whole (pos 5))) (λ p. p) m (nth i)
+get-wide m i = memo-get wide game (float-code (whole (negsuc 4)) (whole (pos 5))) m (nth i) (game .moves (nth i))
 
 -- ten stores: both buckets fill, and the second is used
 abbrev filled : Memo

@@ -33,12 +33,12 @@ module _ (s : Shape) (G : Game) (W : Values (G .Pos)) (C : Code (G .Value)) (D :
 
     -- a coded bound
     bound-rel : (m : Memo) (i shift at : ℕ) (a : G .Value) (x : W .Value) → Reads s G C key Ok m i shift at →
-        Rel (or-else a (number-at s G C key (bound-word s (s .compact) m i shift at))) (or-else x (number-at s H D key (bound-word s (s .compact) m i shift at)))
+        Rel (or-else a (number-at s G C (bound-word s (s .compact) m i shift at))) (or-else x (number-at s H D (bound-word s (s .compact) m i shift at)))
     unfolding or-else number-at
     bound-rel m i shift at a x (v, e, h) = let (y, k, r) = number-rel v e in rw (h, number-bits v e, k) r
 
     module _ (m : Memo) (w : Well s G C key Ok m) (p : G .Pos) (real : Real p) where
-      found-rel : (l : Look) → Found s some-way some-bucket m (key p) l → Both (Entries Rel) (found s G C key m p l) (found s H D key m p l)
+      found-rel : (l : Look) → Found s some-way some-bucket m (key p) l → Both (Entries Rel) (found s G C m (G .moves p) l) (found s H D m (H .moves p) l)
       unfolding found read
       found-rel (hit i) (l, f) =
           let (a, b) = w .row-reads i l (matched-taken s G C key Ok Real F R m w p i f) in
@@ -46,7 +46,7 @@ module _ (s : Shape) (G : Game) (W : Values (G .Pos)) (C : Code (G .Value)) (D :
       found-rel (free i) f = tt
       found-rel full f = tt
 
-      get-related : Both (Entries Rel) (memo-get s G C key m p) (memo-get s H D key m p)
+      get-related : Both (Entries Rel) (memo-get s G C m (key p) (G .moves p)) (memo-get s H D m (key p) (H .moves p))
       unfolding memo-get
       get-related = found-rel (locate s m (key p)) (locate-found s some-way some-bucket m (key p))
 
@@ -58,23 +58,23 @@ module _ (s : Shape) (G : Game) (W : Values (G .Pos)) (C : Code (G .Value)) (D :
       merge-rel (some o) (some q) e f h k = record { bounds-rel = meet-rel G W Rel related _ _ _ _ (k .bounds-rel) (h .bounds-rel); best-same = k .best-same }
 
       kept-same : (c : Bool) (i work : ℕ) (e : Entry (G .Value)) (f : Entry (W .Value)) → C .bits (e .bounds .lo) ≡ D .bits (f .bounds .lo) → C .bits (e .bounds .hi) ≡ D .bits (f .bounds .hi) → e .best ≡ f .best →
-          kept s G C key c m p i work e ≡ kept s H D key c m p i work f
+          kept s G C c m (key p) i work e ≡ kept s H D c m (key p) i work f
       unfolding kept
       kept-same true i work e f a b d = rw (a, b, d) refl
       kept-same false i work e f a b d = rw (a, b, d) refl
 
-      store-same : (e : Entry (G .Value)) (f : Entry (W .Value)) (nodes : ℕ) → Entries Rel e f → memo-store s G C key m p e nodes ≡ memo-store s H D key m p f nodes
+      store-same : (e : Entry (G .Value)) (f : Entry (W .Value)) (nodes : ℕ) → Entries Rel e f → memo-store s G C m (key p) (G .moves p) e nodes ≡ memo-store s H D m (key p) (H .moves p) f nodes
       unfolding memo-store
       store-same e f nodes h =
           let r = merge-rel _ _ e f (found-rel (locate s m (key p)) (locate-found s some-way some-bucket m (key p))) h in
           kept-same (s .compact) _ _ _ _ (bits-same _ _ (r .bounds-rel .lo-rel)) (bits-same _ _ (r .bounds-rel .hi-rel)) (r .best-same)
 
-      stored-well : (e : Entry (G .Value)) (f : Entry (W .Value)) (nodes : ℕ) → Entries Rel e f → Well s G C key Ok (memo-store s G C key m p e nodes)
+      stored-well : (e : Entry (G .Value)) (f : Entry (W .Value)) (nodes : ℕ) → Entries Rel e f → Well s G C key Ok (memo-store s G C m (key p) (G .moves p) e nodes)
       stored-well e f nodes h = store-well s G C key Ok Real F R m w p e nodes (rel-ok _ _ (h .bounds-rel .lo-rel)) (rel-ok _ _ (h .bounds-rel .hi-rel)) real
 
     pub memo-in-step : InStep G W (memory s G C key) (memory s (valued G W) D key) Rel (SameMemo s G C key Ok) Real
     memo-in-step = record {
       values = related;
       get-rel = λ m n p r (e, w). rw (← e) (get-related m w p r);
-      store-alike = λ m n p e f nodes r (k, w) h. (store-same m w p r e f nodes h ∙ ap (λ (x : Memo). memo-store s H D key x p f nodes) k, stored-well m w p r e f nodes h);
+      store-alike = λ m n p e f nodes r (k, w) h. (store-same m w p r e f nodes h ∙ ap (λ (x : Memo). memo-store s H D x (key p) (H .moves p) f nodes) k, stored-well m w p r e f nodes h);
     }
