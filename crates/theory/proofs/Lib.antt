@@ -41,3 +41,6 @@ pub mod Counting
 pub mod MemoInStep
 pub mod Floats
 pub mod Theorems
+-- play on a net
+pub mod Settling
+pub mod Fits
