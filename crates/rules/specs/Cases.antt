@@ -1,14 +1,13 @@
 -- The cases that 01 marks with † as inputs (01, "Positions with known keys"): its two sheets, sheets with one arc each, and what a call prints of them.
 -- Assumes nothing.
-use mathlib.Core.Bool.{Bool, true, false}
+use mathlib.Core.Bool.{Bool, true, false, _&&_}
 use mathlib.Core.Option.{Option, none, some}
 use mathlib.Core.List.{List, [], _∷_, _++_}
 use Prim.Native.Nat.{ℕ}
 use Prim.Native.String.{String}
 use lib.ListN.{replicate}
 use Rattle.rules.specs.Text.{bytes}
-use Rattle.rules.specs.Net.{Net}
-use Rattle.rules.specs.Sheet.{Reading, accepted, refused, read-sheet}
+use Rattle.rules.specs.Sheet.{Reading, accepted, unread}
 use Rattle.rules.specs.Play.{Marking, enabled, fire, start}
 use Rattle.rules.specs.Answer.{report}
 use Rattle.rules.specs.Call.{call}
@@ -76,16 +75,16 @@ refused-firing none = true
 refused-firing (some m) = false
 
 abbrev pub behaves : Reading → Option (Bool × Bool)
-behaves (accepted net) = some (enabled net (start net) 0, refused-firing (fire net (start net) 0))
-behaves (refused r n) = none
+behaves (accepted net) = some (enabled net (start net) 0, enabled net (start net) 0 && refused-firing (fire net (start net) 0))
+behaves (unread r n) = none
 
 -- `in` 0 is always enabled, 2 never; `stop` 0 never, 1 only at 0, 2 always; `cap` 1 1 only at 0; `out` 2 spills
 abbrev pub arc-cases : List Arc
 arc-cases =
     arc "0" "in 0 0 0 -" true false
     ∷ arc "1" "in 0 0 0 -" true false
-    ∷ arc "0" "in 0 0 2 -" false true
-    ∷ arc "1" "in 0 0 2 -" false true
+    ∷ arc "0" "in 0 0 2 -" false false
+    ∷ arc "1" "in 0 0 2 -" false false
     ∷ arc "0" "stop 0 0 0 -" false false
     ∷ arc "1" "stop 0 0 0 -" false false
     ∷ arc "0" "stop 0 0 1 -" true false
@@ -95,4 +94,5 @@ arc-cases =
     ∷ arc "0" "cap 0 0 1 1" true false
     ∷ arc "1" "cap 0 0 1 1" false false
     ∷ arc "0" "out 0 0 2 -" true true
+    ∷ arc "1" "out 0 0 2 -" true true
     ∷ []

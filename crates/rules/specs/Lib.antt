@@ -1,4 +1,4 @@
--- The definitions of document 01, in its order. Assumes nothing.
+-- The definitions of document 01; each file rests on those before it. Assumes nothing.
 pub mod Limits
 pub mod Text
 pub mod Net
@@ -20,4 +20,5 @@ pub mod Order
 pub mod NetGame
 pub mod Answer
 pub mod Call
+pub mod Keymove
 pub mod Cases

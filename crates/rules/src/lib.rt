@@ -16,7 +16,7 @@ pub enum Refusal {
     Deep,
 }
 
-// What a call answers. The exact answer carries the value of the root's run, as side 1 sees it; each answer that searched its nodes.
+// What a call answers. The exact answer carries the value of the root's run, as side 1 sees it; `line` is that of refusals 1 to 3, else 0.
 pub enum Answer {
     Exact {
         key: u64,

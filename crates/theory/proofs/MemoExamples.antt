@@ -10,6 +10,7 @@ use lib.IntN.{ℤ, pos, negsuc}
 use lib.Ieee.{Float, binary64, ofInt, ofBits, toBits, le, lt}
 use Rattle.words.specs.Lists.{range, contains, eq-list, range-from}
 use Rattle.words.specs.Words.{bit-length}
+use Rattle.rules.specs.Limits.{first-generation}
 use Rattle.rules.specs.Game.{Game, max, to}
 use Rattle.rules.specs.Minimax.{pick}
 use Rattle.rules.specs.Search.{Entry, meet, merge}
@@ -49,7 +50,7 @@ get-small m k = memo-get small game (float-code (whole (negsuc 4)) (whole (pos 5
 -- six stores: one merged with its row, and one that replaces the weakest
 abbrev after : Memo
 after =
-    let a = put-small (cleared small) 1 (entry (negsuc 0) (pos 1) (some 0)) 3 in
+    let a = put-small (cleared first-generation small) 1 (entry (negsuc 0) (pos 1) (some 0)) 3 in
     let b = put-small a 2 (entry (pos 0) (pos 0) (some 1)) 1 in
     let c = put-small b 3 (entry (negsuc 0) (pos 0) none) 0 in
     let d = put-small c 1 (entry (pos 0) (pos 1) (some 1)) 1 in
@@ -76,7 +77,7 @@ get-wide m i = memo-get wide game (float-code (whole (negsuc 4)) (whole (pos 5))
 -- ten stores: both buckets fill, and the second is used
 abbrev filled : Memo
 filled =
-    let a = put-wide (cleared wide) 1 (negsuc 3) 2 in
+    let a = put-wide (cleared first-generation wide) 1 (negsuc 3) 2 in
     let b = put-wide a 2 (negsuc 2) 4 in
     let c = put-wide b 3 (negsuc 1) 1 in
     let d = put-wide c 4 (negsuc 0) 3 in
