@@ -44,3 +44,7 @@ pub mod Theorems
 -- play on a net
 pub mod Settling
 pub mod Fits
+-- the game of a net
+pub mod Sums
+pub mod Values
+pub mod NetRules
