@@ -48,3 +48,5 @@ pub mod Fits
 pub mod Sums
 pub mod Values
 pub mod NetRules
+pub mod NetMarking
+pub mod NetRegular
