@@ -50,3 +50,4 @@ pub mod Values
 pub mod NetRules
 pub mod NetMarking
 pub mod NetRegular
+pub mod Sheets
