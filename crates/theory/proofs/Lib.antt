@@ -51,3 +51,4 @@ pub mod NetRules
 pub mod NetMarking
 pub mod NetRegular
 pub mod Sheets
+pub mod NetPolicy
