@@ -52,3 +52,4 @@ pub mod NetMarking
 pub mod NetRegular
 pub mod Sheets
 pub mod NetPolicy
+pub mod NetOrder
