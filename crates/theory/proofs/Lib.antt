@@ -53,3 +53,7 @@ pub mod NetRegular
 pub mod Sheets
 pub mod NetPolicy
 pub mod NetOrder
+pub mod NetLimits
+pub mod SheetLines
+pub mod SheetRows
+pub mod SheetLimits
