@@ -57,3 +57,4 @@ pub mod NetLimits
 pub mod SheetLines
 pub mod SheetRows
 pub mod SheetLimits
+pub mod NetFloats
