@@ -58,3 +58,4 @@ pub mod SheetLines
 pub mod SheetRows
 pub mod SheetLimits
 pub mod NetFloats
+pub mod RootRun

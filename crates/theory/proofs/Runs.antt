@@ -30,17 +30,17 @@ module _ (G : Game) (S : Settings G) (B : ℕ) where
   module _ (f g : Search G S) (ih : BudgetedSearch G S B f g) (p : Pos) where
     stepped-budgeted : (x : Bool) (v : Value) (m n : Run G S Value) → Budgeted G S B m n → Budgeted G S B (stepped G S x v m) (stepped G S x v n)
     unfolding stepped
-    stepped-budgeted true v m n h = record { grows = h .grows; within = h .within }
-    stepped-budgeted false v m n h = budgeted-pure G S B _ (λ st. refl)
+    stepped-budgeted true v m n h = record { unspent = h .unspent; grows = h .grows; within = h .within }
+    stepped-budgeted false v m n h = budgeted-pure G S B _ (λ st. refl) (λ st. tt)
 
     scout-budgeted : (σ : Scale G) (s : Side) (r n : ℕ) → Budgeted G S B (scout-from G S σ f p s r n) (scout-from G S σ g p s r n)
     unfolding scout-from
-    scout-budgeted σ s zero n = budgeted-pure G S B _ (λ st. refl)
+    scout-budgeted σ s zero n = budgeted-pure G S B _ (λ st. refl) (λ st. tt)
     scout-budgeted σ s (suc r) n = budgeted-then G S B _ _ _ _ (ih p (window s (rung G σ s n) (rung G σ s (suc n)))) (λ v. stepped-budgeted _ _ _ _ (scout-budgeted σ s r (suc n)))
 
     mtd-budgeted : (σ : Scale G) (r i j : ℕ) → Budgeted G S B (mtd-from G S σ f p r i j) (mtd-from G S σ g p r i j)
     unfolding mtd-from mtd-test mtd-next
-    mtd-budgeted σ zero i j = budgeted-pure G S B _ (λ st. refl)
+    mtd-budgeted σ zero i j = budgeted-pure G S B _ (λ st. refl) (λ st. tt)
     mtd-budgeted σ (suc r) i j = go (mtd-budgeted σ r) (ltb i j)
       where
         next : ((i j : ℕ) → Budgeted G S B (mtd-from G S σ f p r i j) (mtd-from G S σ g p r i j)) → (v : Value) (x : Bool) → Budgeted G S B (mtd-next G S σ x v i j (mtd-from G S σ f p r)) (mtd-next G S σ x v i j (mtd-from G S σ g p r))
@@ -48,7 +48,7 @@ module _ (G : Game) (S : Settings G) (B : ℕ) where
         next rest v false = rest i _
 
         go : ((i j : ℕ) → Budgeted G S B (mtd-from G S σ f p r i j) (mtd-from G S σ g p r i j)) → (x : Bool) → Budgeted G S B (mtd-test G S σ f p x i j (mtd-from G S σ f p r)) (mtd-test G S σ g p x i j (mtd-from G S σ g p r))
-        go rest false = budgeted-pure G S B _ (λ st. refl)
+        go rest false = budgeted-pure G S B _ (λ st. refl) (λ st. tt)
         go rest true =
             let k = i + (j - i - 1) / 2 in
             budgeted-then G S B _ _ _ _ (ih p (record { lo = σ .at k; hi = σ .at (suc k) })) (λ v. next rest v (leb (σ .at (suc k)) v))
@@ -60,19 +60,20 @@ module _ (G : Game) (S : Settings G) (B : ℕ) where
 
     begun-budgeted : (b : Bool) (l : List ℕ) (m n : Side → Run G S Value) → ((s : Side) → Budgeted G S B (m s) (n s)) → Budgeted G S B (begun G S p b l m) (begun G S p b l n)
     unfolding begun sided
-    begun-budgeted true l m n h = budgeted-pure G S B _ (λ st. refl)
-    begun-budgeted false [] m n h = budgeted-pure G S B _ (λ st. refl)
+    begun-budgeted true l m n h = budgeted-pure G S B _ (λ st. refl) (λ st. tt)
+    begun-budgeted false [] m n h = budgeted-pure G S B _ (λ st. refl) (λ st. tt)
     begun-budgeted false (t ∷ l) m n h = go (mover p)
       where
         go : (o : Option Side) → Budgeted G S B (sided G S o m) (sided G S o n)
-        go none = budgeted-pure G S B _ (λ st. refl)
-        go (some s) = record { grows = h s .grows; within = h s .within }
+        go none = budgeted-pure G S B _ (λ st. refl) (λ st. tt)
+        go (some s) = record { unspent = h s .unspent; grows = h s .grows; within = h s .within }
 
     pub run-budgeted : (δ : Driver G) → Budgeted G S B (run G S δ f p) (run G S δ g p)
     unfolding run
-    run-budgeted single = record { grows = ih p _ .grows; within = ih p _ .within }
+    run-budgeted single = record { unspent = ih p _ .unspent; grows = ih p _ .grows; within = ih p _ .within }
     run-budgeted (scout σ) = begun-budgeted _ (moves p) _ _ (λ s. scout-budgeted σ s (σ .gaps) 0)
     run-budgeted (mtd σ) = begun-budgeted _ (moves p) _ _ (λ s. record {
+      unspent = λ z. mtd-begin-budgeted σ (get (z .memo) p) .unspent z;
       grows = λ z. mtd-begin-budgeted σ (get (z .memo) p) .grows z;
       within = λ z. mtd-begin-budgeted σ (get (z .memo) p) .within z;
     })
@@ -80,34 +81,35 @@ module _ (G : Game) (S : Settings G) (B : ℕ) where
   module _ (f g : Pos → Run G S Value) (ih : (p : Pos) → Budgeted G S B (f p) (g p)) (p : Pos) where
     child-budgeted : (q : Pos) (l : List ℕ) → Budgeted G S B (child-run G S f q l) (child-run G S g q l)
     unfolding child-run
-    child-budgeted q [] = budgeted-pure G S B _ (λ st. refl)
-    child-budgeted q (t ∷ l) = record { grows = ih q .grows; within = ih q .within }
+    child-budgeted q [] = budgeted-pure G S B _ (λ st. refl) (λ st. tt)
+    child-budgeted q (t ∷ l) = record { unspent = ih q .unspent; grows = ih q .grows; within = ih q .within }
 
     check-budgeted : (v : Value) (l : List ℕ) → Budgeted G S B (check G S f p v l) (check G S g p v l)
     unfolding check check-played matched
-    check-budgeted v [] = budgeted-pure G S B _ (λ st. refl)
+    check-budgeted v [] = budgeted-pure G S B _ (λ st. refl) (λ st. tt)
     check-budgeted v (t ∷ l) = go (check-budgeted v l) (play p t)
       where
         match : Budgeted G S B (check G S f p v l) (check G S g p v l) → (x : Bool) → Budgeted G S B (matched G S x t v (check G S f p v l)) (matched G S x t v (check G S g p v l))
-        match rest true = budgeted-pure G S B _ (λ st. refl)
-        match rest false = record { grows = rest .grows; within = rest .within }
+        match rest true = budgeted-pure G S B _ (λ st. refl) (λ st. tt)
+        match rest false = record { unspent = rest .unspent; grows = rest .grows; within = rest .within }
 
         go : Budgeted G S B (check G S f p v l) (check G S g p v l) → (y : Played Pos) → Budgeted G S B (check-played G S f y t v (check G S f p v l)) (check-played G S g y t v (check G S g p v l))
-        go rest (stopped r) = budgeted-pure G S B _ (λ st. refl)
+        go rest (stopped r) = budgeted-pure G S B _ (λ st. refl) (λ st. tt)
         go rest (to q) = budgeted-then G S B _ _ _ _ (child-budgeted q (moves q)) (λ x. match rest (eqv G x v))
 
     root-budgeted : (o : Option Side) → Budgeted G S B (root G S f p o) (root G S g p o)
     unfolding root
-    root-budgeted none = budgeted-pure G S B _ (λ st. refl)
+    root-budgeted none = budgeted-pure G S B _ (λ st. refl) (λ st. tt)
     root-budgeted (some s) = budgeted-then G S B _ _ _ _ (ih p) (λ v. record {
+      unspent = λ z. check-budgeted v (remembered G S (moves p) (get (z .memo) p) ++ moves p) .unspent z;
       grows = λ z. check-budgeted v (remembered G S (moves p) (get (z .memo) p) ++ moves p) .grows z;
       within = λ z. check-budgeted v (remembered G S (moves p) (get (z .memo) p) ++ moves p) .within z;
     })
 
     chosen-budgeted : (b : Bool) (l : List ℕ) → Budgeted G S B (chosen G S f p b l) (chosen G S g p b l)
     unfolding chosen
-    chosen-budgeted b [] = budgeted-pure G S B _ (λ st. refl)
-    chosen-budgeted true (t ∷ l) = budgeted-pure G S B _ (λ st. refl)
+    chosen-budgeted b [] = budgeted-pure G S B _ (λ st. refl) (λ st. tt)
+    chosen-budgeted true (t ∷ l) = budgeted-pure G S B _ (λ st. refl) (λ st. tt)
     chosen-budgeted false (t ∷ l) = root-budgeted (mover p)
 
   -- THEOREM 2 for the whole call: N is the count that it reaches with no budget.
