@@ -59,3 +59,5 @@ pub mod SheetRows
 pub mod SheetLimits
 pub mod NetFloats
 pub mod RootRun
+pub mod MemoWide
+pub mod Accepted
