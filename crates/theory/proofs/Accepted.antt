@@ -1,17 +1,17 @@
 -- An input is accepted exactly where none of refusals 1 to 7 is met, and the call then ends as choosing does.
 -- Assumes nothing.
-use mathlib.Core.Path.{_≡_, refl, ap}
+use mathlib.Core.Path.{_≡_, refl}
 use mathlib.Core.Bool.{Bool, true, false, true≢false, cond, not, _&&_}
 use mathlib.Core.Option.{Option, none, some}
 use mathlib.Core.List.{List, [], _∷_}
 use mathlib.Core.Logic.{_⊎_, inl, inr}
-use Prim.Native.Nat.{ℕ, _≤_, _<_}
+use Prim.Native.Nat.{ℕ, _<_}
 use native.Mathlib.Omega.{arith}
 use lib.Dec.{eqb, leb}
 use lib.ListN.{length}
-use borrow.Author.Tests.{leb-true, le-leb, ne-eqb, eqb-true}
+use borrow.Author.Tests.{leb-true, le-leb, eqb-true}
 use Rattle.words.specs.Lists.{range, all, any}
-use Rattle.words.proofs.Lists.{and-true, and-both, by-test, not-both, all-in, in-all, any-none, none-any, any-in, in-any, range-in, in-range}
+use Rattle.words.proofs.Lists.{and-true, by-test, not-both, all-in, in-all, any-none, none-any, any-in, in-any, range-in, in-range}
 use Rattle.rules.specs.declared.Refusal.{Refusal}
 use Rattle.rules.specs.declared.Refusal.the-variants.{Settings as BadSettings, NoGoals, Memory as NoMemory, Unsettled}
 use Rattle.rules.specs.declared.Answer.the-variants.{Refused}

@@ -61,3 +61,4 @@ pub mod NetFloats
 pub mod RootRun
 pub mod MemoWide
 pub mod Accepted
+pub mod NetCall

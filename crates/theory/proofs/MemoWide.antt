@@ -7,7 +7,7 @@ use mathlib.Core.List.{List, []}
 use Prim.Native.Nat.{ℕ, max as maxℕ}
 use Rattle.words.specs.Words.{bit-length}
 use Rattle.rules.specs.Game.{Game, to}
-use Rattle.rules.specs.Search.{Entry, merge, Memory, Policy, Settings, State}
+use Rattle.rules.specs.Search.{Entry, merge, Policy, Settings, State}
 use Rattle.rules.specs.Memo.{Shape, Memo, cleared, Code, memory, locate, slot, old-work, put, found, kept, memo-store}
 use Rattle.rules.specs.Drivers.{Driver}
 use Rattle.rules.specs.Choose.{choose}
