@@ -97,7 +97,7 @@ module _ (r : Request) (net : Net) where
       quiet-at : (t : ℕ) → t < net .transitions → has-role net auto t ≡ true → enabled net (start net) t ≡ false
       quiet-at t l e = rw e at (any-none (λ t. has-role net auto t && enabled net (start net) t) (range (net .transitions)) quiet (in-range 0 (net .transitions) t (omega arith) (omega arith)))
 
-  input-accepted : read-sheet (r .sheet) ≡ accepted net → input-refusal net r ≡ none → Accepted r net
+  pub input-accepted : read-sheet (r .sheet) ≡ accepted net → input-refusal net r ≡ none → Accepted r net
   unfolding input-refusal
   input-accepted readable e = go (settings-fit r) refl (goals-missing net r) refl (memory-fits net r) refl (unsettled net) refl e
     where
