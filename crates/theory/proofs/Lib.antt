@@ -30,6 +30,7 @@ pub mod Row
 pub mod Children
 pub mod Sound
 pub mod Budget
+pub mod Causes
 pub mod Regular
 pub mod Scale
 pub mod Drivers

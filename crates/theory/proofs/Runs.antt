@@ -1,25 +1,17 @@
--- Runs and the choice of the key: their budget is exact, and under the premises on play nothing is refused.
+-- Runs and the choice of the key: their budget is exact.
 -- Assumes nothing.
-use mathlib.Core.Path.{_≡_, refl}
-use mathlib.Core.Bool.{Bool, true, false, true≢false}
+use mathlib.Core.Path.{refl}
+use mathlib.Core.Bool.{Bool, true, false}
 use mathlib.Core.Option.{Option, none, some}
 use mathlib.Core.List.{List, [], _∷_, _++_}
-use mathlib.Core.Logic.{_⊎_, inl, inr}
 use Prim.Native.Nat.{ℕ, zero, suc, _+_, _-_, _/_}
-use native.Mathlib.Omega.{arith}
 use lib.Dec.{ltb}
-use lib.ListN.{length}
-use borrow.Author.Tests.{ltb-true}
-use Rattle.rules.specs.Limits.{max-moves}
 use Rattle.rules.specs.Game.{Game, Side, Played, to, stopped, eqv}
-use Rattle.rules.specs.Search.{Interval, Entry, window, Memory, Settings, State, Run, Search, alpha-beta}
-use Rattle.rules.specs.Drivers.{Scale, Driver, single, scout, mtd, rung, onward, sided, begun, stepped, scout-from, mtd-next, mtd-test, mtd-from, mtd-begin, run}
+use Rattle.rules.specs.Search.{Entry, window, Memory, Settings, Run, Search, alpha-beta}
+use Rattle.rules.specs.Drivers.{Scale, Driver, single, scout, mtd, rung, sided, begun, stepped, scout-from, mtd-next, mtd-test, mtd-from, mtd-begin, run}
 use Rattle.rules.specs.Choose.{child-run, matched, check-played, check, remembered, root, chosen}
 use Rattle.theory.specs.Counted.{choose-counted}
-use Rattle.theory.specs.Regular.{Turn, Level, Regular}
 use Rattle.theory.proofs.Budget.{Budgeted, budgeted-pure, budgeted-then, BudgetedSearch, alpha-beta-budgeted}
-use Rattle.theory.proofs.Regular.{Valued, valued-then, alpha-beta-valued}
-use Rattle.theory.proofs.Laws.{Lawful}
 
 -- The budget.
 
@@ -116,79 +108,3 @@ module _ (G : Game) (S : Settings G) (B : ℕ) where
   pub choose-counted-budgeted : (δ : Driver G) (d : ℕ) (p : Pos) → Budgeted G S B (choose-counted G S δ none d p) (choose-counted G S δ (some B) d p)
   unfolding choose-counted
   choose-counted-budgeted δ d p = chosen-budgeted _ _ (λ q. run-budgeted (alpha-beta G S none d) (alpha-beta G S (some B) d) (alpha-beta-budgeted G S B d) q δ) p _ (moves p)
-
--- No refusal.
-
--- a position that is regular for `d` is regular for more
-pub regular-more : (G : Game) (d : ℕ) (p : G .Pos) → Regular G d p → Regular G (suc d) p
-regular-more G zero p h = absurd h
-regular-more G (suc d) p h = record { narrow = h .narrow; turn = go (regular-more G d) (h .turn) }
-  where
-    go : ((q : G .Pos) → Regular G d q → Regular G (suc d) q) → (G .moves p ≡ []) ⊎ Turn G (Regular G d) p → (G .moves p ≡ []) ⊎ Turn G (Regular G (suc d)) p
-    go more (inl e) = inl e
-    go more (inr t) = inr (record { side = t .side; moves-of = t .moves-of; next = λ u i. let (q, e, r) = t .next u i in (q, e, more q r) })
-
-module _ (G : Game) (S : Settings G) where
-  open Game G using (Value, leb, Pos, moves, mover, play)
-  open Memory (S .memory) using (get)
-
-  abbrev pub ValuedRun : {A : Type 0} → Run G S A → Type 0
-  ValuedRun m = (st : State S) → Valued (m st .0)
-
-  module _ (f : Search G S) (p : Pos) (ih : (w : Interval Value) → ValuedRun (f p w)) where
-    scout-valued : (σ : Scale G) (s : Side) (r n : ℕ) → ValuedRun (scout-from G S σ f p s r n)
-    unfolding scout-from stepped
-    scout-valued σ s zero n st = tt
-    scout-valued σ s (suc r) n st = valued-then G S _ _ st (ih _ st) (λ v z. go (scout-valued σ s r (suc n)) (onward G σ s _ v) z)
-      where
-        go : ValuedRun (scout-from G S σ f p s r (suc n)) → (x : Bool) → ValuedRun (stepped G S x (rung G σ s n) (scout-from G S σ f p s r (suc n)))
-        go rest true z = rest z
-        go rest false z = tt
-
-    mtd-valued : (σ : Scale G) (r i j : ℕ) → ValuedRun (mtd-from G S σ f p r i j)
-    unfolding mtd-from mtd-test mtd-next
-    mtd-valued σ zero i j st = tt
-    mtd-valued σ (suc r) i j st = go (mtd-valued σ r) (ltb i j)
-      where
-        next : ((i j : ℕ) → ValuedRun (mtd-from G S σ f p r i j)) → (v : Value) (x : Bool) → ValuedRun (mtd-next G S σ x v i j (mtd-from G S σ f p r))
-        next rest v true = rest _ j
-        next rest v false = rest i _
-
-        go : ((i j : ℕ) → ValuedRun (mtd-from G S σ f p r i j)) → (x : Bool) → Valued (mtd-test G S σ f p x i j (mtd-from G S σ f p r) st .0)
-        go rest false = tt
-        go rest true =
-            let k = i + (j - i - 1) / 2 in
-            valued-then G S _ _ st (ih (record { lo = σ .at k; hi = σ .at (suc k) }) st) (λ v. next rest v (leb (σ .at (suc k)) v))
-
-    mtd-begin-valued : (σ : Scale G) (o : Option (Entry Value)) → ValuedRun (mtd-begin G S σ f p o)
-    unfolding mtd-begin
-    mtd-begin-valued σ none = mtd-valued σ _ _ _
-    mtd-begin-valued σ (some e) = mtd-valued σ _ _ _
-
-  -- a position with few enough moves, all of one side
-  module _ (below : Pos → Type 0) (p : Pos) (h : Level G below p) where
-    pub not-wide : ltb max-moves (length (moves p)) ≡ true → ⊥
-    not-wide e = let k = ltb-true max-moves (length (moves p)) e in let n = h .narrow in omega arith
-
-    pub turn-of : (t : ℕ) (l : List ℕ) → moves p ≡ t ∷ l → Turn G below p
-    turn-of t l e = go (h .turn)
-      where
-        go : (moves p ≡ []) ⊎ Turn G below p → Turn G below p
-        go (inl k) = absurd (true≢false (cc))
-        go (inr k) = k
-
-    begun-valued : (b : Bool) (l : List ℕ) (k : Side → Run G S Value) → ltb max-moves (length (moves p)) ≡ b → moves p ≡ l → ((s : Side) → ValuedRun (k s)) → ValuedRun (begun G S p b l k)
-    unfolding begun sided
-    begun-valued true l k w e v st = not-wide w
-    begun-valued false [] k w e v st = tt
-    begun-valued false (t ∷ l) k w e v st = rw (turn-of t l e .moves-of) (v (turn-of t l e .side) st)
-
-module _ (G : Game) (S : Settings G) (M : Lawful G S) where
-  open Game G using (Pos, moves)
-  open Memory (S .memory) using (get)
-
-  pub run-valued : (d : ℕ) (δ : Driver G) (p : Pos) → Regular G (suc d) p → ValuedRun G S (run G S δ (alpha-beta G S none (suc d)) p)
-  unfolding run
-  run-valued d single p h st = alpha-beta-valued G S M (suc d) p _ st h
-  run-valued d (scout σ) p h st = begun-valued G S (Regular G d) p h _ (moves p) _ refl refl (λ s. scout-valued G S (alpha-beta G S none (suc d)) p (λ w z. alpha-beta-valued G S M (suc d) p w z h) σ s (σ .gaps) 0) st
-  run-valued d (mtd σ) p h st = begun-valued G S (Regular G d) p h _ (moves p) _ refl refl (λ s z. mtd-begin-valued G S (alpha-beta G S none (suc d)) p (λ w y. alpha-beta-valued G S M (suc d) p w y h) σ (get (z .memo) p) z) st
