@@ -2,29 +2,27 @@
 -- value as the root. With a budget it does the same if the count stays within it, and else is spent (`choose-counted-budgeted`).
 -- Assumes nothing.
 use mathlib.Core.Path.{_≡_, refl}
-use mathlib.Core.Bool.{Bool, true, false}
 use mathlib.Core.Option.{none, some}
-use mathlib.Core.List.{List, [], _∷_, List·Memᴰ·head, List·Memᴰ·tail, List·Memᴰ·append-cases, List·Memᴰ·not-nil}
+use mathlib.Core.List.{[], List·Memᴰ·not-nil}
 use mathlib.Core.Logic.{_⊎_, inl, inr}
 use Prim.Native.Nat.{ℕ, suc, _≤_, _<_}
-use lib.Dec.{ltb}
-use lib.ListN.{length}
-use Rattle.rules.specs.Limits.{max-moves}
-use Rattle.rules.specs.Game.{Game, to, _∈_, eqv}
+use Rattle.rules.specs.Game.{Game, to, _∈_}
 use Rattle.rules.specs.Minimax.{Worth}
-use Rattle.rules.specs.Search.{Outcome, value, spent, refused, Memory, Settings, State, Run, alpha-beta}
-use Rattle.rules.specs.Drivers.{Driver, run}
-use Rattle.rules.specs.Choose.{Choice, no-move, no-child, key, child-run, matched, check-played, check, remembered, root, chosen}
+use Rattle.rules.specs.Search.{Outcome, value, spent, refused, Memory, Settings, State}
+use Rattle.rules.specs.Drivers.{Driver}
+use Rattle.rules.specs.Choose.{Choice, no-move, no-child, key}
 use Rattle.theory.specs.Counted.{choose-counted}
 use Rattle.theory.specs.Forces.{Exact}
+use Rattle.theory.specs.Causes.{Cause}
 use Rattle.theory.specs.Regular.{Turn, Regular}
 use Rattle.theory.proofs.Forces.{Leads, exact-unique}
 use Rattle.theory.proofs.Minimax.{worth-exact, minimax-worth, minimax-some}
 use Rattle.theory.proofs.Answer.{Sound, Gives}
 use Rattle.theory.proofs.Budget.{Within, same, short}
-use Rattle.theory.proofs.Regular.{Valued, valued-then}
-use Rattle.theory.proofs.Choose.{IsKey, Chosen, remembered-in, choose-counted-sound}
-use Rattle.theory.proofs.Runs.{ValuedRun, not-wide, turn-of, run-valued, regular-more, choose-counted-budgeted}
+use Rattle.theory.proofs.Causes.{choose-counted-blamed}
+use Rattle.theory.proofs.Regular.{Valued, valued, regular-uncaused}
+use Rattle.theory.proofs.Choose.{IsKey, Chosen, choose-counted-sound}
+use Rattle.theory.proofs.Runs.{choose-counted-budgeted}
 use Rattle.theory.proofs.Laws.{Tabled, Lawful, Driven}
 
 module _ (G : Game) where
@@ -53,40 +51,9 @@ module _ (G : Game) (S : Settings G) (M : Lawful G S) (d : ℕ) where
   open Lawful M using (rules as R)
   open Tabled (M .table) using (Real)
 
-  module _ (r : Pos → Run G S Value) (ih : (q : Pos) → Regular G (suc d) q → ValuedRun G S (r q)) (p : Pos) where
-    child-valued : (q : Pos) (l : List ℕ) → Regular G (suc d) q → ValuedRun G S (child-run G S r q l)
-    unfolding child-run
-    child-valued q [] h st = tt
-    child-valued q (t ∷ l) h st = ih q h st
-
-    check-valued : (v : Value) (l : List ℕ) → ((t : ℕ) → t ∈ l → (q : Pos) × (play p t ≡ to q) × Regular G d q) → ValuedRun G S (check G S r p v l)
-    unfolding check check-played matched
-    check-valued v [] h st = tt
-    check-valued v (t ∷ l) h st =
-        let (q, e, k) = h t (List·Memᴰ·head refl) in
-        rw e (valued-then G S _ _ st (child-valued q (moves q) (regular-more G d q k) st) (λ x z. go (check-valued v l (λ u i. h u (List·Memᴰ·tail i))) (eqv G x v) z))
-      where
-        go : ValuedRun G S (check G S r p v l) → (x : Bool) → ValuedRun G S (matched G S x t v (check G S r p v l))
-        go rest true z = tt
-        go rest false z = rest z
-
-    root-valued : Regular G (suc d) p → (t : Turn G (Regular G d) p) → ValuedRun G S (root G S r p (some (t .side)))
-    unfolding root
-    root-valued h t st = valued-then G S _ _ st (ih p h st) (λ v z. check-valued v _ (λ u i. t .next u (either z u (List·Memᴰ·append-cases (remembered G S (moves p) (get (z .memo) p)) i))) z)
-      where
-        either : (z : State S) (u : ℕ) → (u ∈ remembered G S (moves p) (get (z .memo) p)) ⊎ (u ∈ moves p) → u ∈ moves p
-        either z u (inl i) = remembered-in G S (moves p) (get (z .memo) p) u i
-        either z u (inr i) = i
-
-    chosen-valued : (b : Bool) (l : List ℕ) → ltb max-moves (length (moves p)) ≡ b → moves p ≡ l → Regular G (suc d) p → ValuedRun G S (chosen G S r p b l)
-    unfolding chosen
-    chosen-valued b [] w e h st = tt
-    chosen-valued true (t ∷ l) w e h st = not-wide G S (Regular G d) p h w
-    chosen-valued false (t ∷ l) w e h st = let k = turn-of G S (Regular G d) p h t l e in rw (k .moves-of) (root-valued h k st)
-
-  choose-counted-valued : (δ : Driver G) (p : Pos) → Regular G (suc d) p → ValuedRun G S (choose-counted G S δ none (suc d) p)
-  unfolding choose-counted
-  choose-counted-valued δ p h = chosen-valued (run G S δ (alpha-beta G S none (suc d))) (run-valued G S M d δ) p _ (moves p) refl refl h
+  choose-counted-valued : (δ : Driver G) (p : Pos) → Regular G (suc d) p → (st : State S) → Valued (choose-counted G S δ none (suc d) p st .0)
+  choose-counted-valued δ p h st =
+      valued (Cause G (suc d) p) (choose-counted G S δ none (suc d) p st .0) (choose-counted-budgeted G S 0 δ (suc d) p .unspent st) (choose-counted-blamed G S M δ none (suc d) p st) (λ r c. regular-uncaused G (suc d) h c)
 
   minimax-key : (p : Pos) (m : ℕ) (v : Value) → Regular G (suc d) p → IsKey G p m v → MinimaxKey G p m v
   minimax-key p m v h x = go (h .turn)

@@ -1,13 +1,11 @@
 -- The filters' tests: a win is a final position at the best bound, and a child that `lost` drops is one from which the other side
--- forces the worst. Under the premises on play `lost` refuses nothing.
+-- forces the worst. What `lost` refuses has a cause.
 -- Assumes nothing.
 use mathlib.Core.Path.{_≡_, refl, sym, _∙_}
 use mathlib.Core.Bool.{Bool, true, false, true≢false}
 use mathlib.Core.Option.{Option, none, some}
 use mathlib.Core.List.{List, [], _∷_, List·Memᴰ·head, List·Memᴰ·tail}
-use mathlib.Core.Logic.{_⊎_, inl, inr}
-use Prim.Native.Nat.{ℕ, zero, suc}
-use native.Mathlib.Omega.{arith}
+use Prim.Native.Nat.{ℕ}
 use lib.Dec.{ltb}
 use lib.ListN.{length}
 use borrow.Author.Tests.{ltb-true}
@@ -17,7 +15,7 @@ use Rattle.rules.specs.Game.{Game, Side, max, min, opp, Played, to, stopped, _�
 use Rattle.rules.specs.Filter.{Verdict, keep, drop, refuse, over, wins, replied, reply-played, reply-wins, replies, replier, lost-listed, lost}
 use Rattle.rules.specs.Search.{Child, Policy}
 use Rattle.theory.specs.Forces.{Forces, final, own}
-use Rattle.theory.specs.Regular.{Turn, Regular}
+use Rattle.theory.specs.Causes.{Cause, here, mixed, wide, stops}
 use Rattle.theory.proofs.Tests.{and-true}
 use Rattle.theory.proofs.Order.{le-refl, le-antisym}
 use Rattle.theory.proofs.Laws.{Rules, Orderly}
@@ -86,48 +84,47 @@ module _ (G : Game) (R : Rules G) where
     lost-forces s q e = rw e at (lost-says s q)
 
     -- and the second
-    abbrev Decides : Verdict → Type 0
-    Decides keep = Unit {0}
-    Decides drop = Unit {0}
-    Decides (refuse r) = ⊥
+    module _ (d : ℕ) where
+      abbrev Decides : Pos → Verdict → Type 0
+      Decides q keep = Unit {0}
+      Decides q drop = Unit {0}
+      Decides q (refuse r) = Cause G d q r
 
-    reply-wins-decides : (s : Side) (q : Pos) (l : List ℕ) → ((u : ℕ) → u ∈ l → (x : Pos) × (play q u ≡ to x)) → Decides (reply-wins G candidates s q l)
-    unfolding reply-wins reply-played replied
-    reply-wins-decides s q [] h = tt
-    reply-wins-decides s q (u ∷ l) h =
-        let (x, e) = h u (List·Memᴰ·head refl) in
-        rw e (test (wins G (opp s) x) (reply-wins G candidates s q l) (reply-wins-decides s q l (λ t i. h t (List·Memᴰ·tail i))))
-      where
-        test : (b : Bool) (v : Verdict) → Decides v → Decides (replied G candidates b v)
-        test true v k = tt
-        test false v k = k
+      reply-wins-decides : (s : Side) (q : Pos) (l : List ℕ) → ((u : ℕ) → u ∈ l → u ∈ moves q) → Decides q (reply-wins G candidates s q l)
+      unfolding reply-wins reply-played replied
+      reply-wins-decides s q [] h = tt
+      reply-wins-decides s q (u ∷ l) h = go (play q u) refl (reply-wins G candidates s q l) (reply-wins-decides s q l (λ t i. h t (List·Memᴰ·tail i)))
+        where
+          test : (b : Bool) (v : Verdict) → Decides q v → Decides q (replied G candidates b v)
+          test true v k = tt
+          test false v k = k
 
-    replies-decides : (s o : Side) (q : Pos) → ((u : ℕ) → u ∈ moves q → (x : Pos) × (play q u ≡ to x)) → Decides (replies G candidates s o q)
-    unfolding replies
-    replies-decides max max q h = tt
-    replies-decides max min q h = reply-wins-decides max q (candidates max q) (λ u i. h u (are-moves max q u i))
-    replies-decides min max q h = reply-wins-decides min q (candidates min q) (λ u i. h u (are-moves min q u i))
-    replies-decides min min q h = tt
+          go : (x : Played Pos) → play q u ≡ x → (v : Verdict) → Decides q v → Decides q (reply-played G candidates s x v)
+          go (stopped r) e v k = stops here (h u (List·Memᴰ·head refl)) e
+          go (to x) e v k = test (wins G (opp s) x) v k
 
-    lost-decides : (d : ℕ) (s : Side) (q : Pos) → Regular G d q → Decides (lost G candidates s q)
-    unfolding lost lost-listed replier
-    lost-decides zero s q h = absurd h
-    lost-decides (suc d) s q h = go (ltb max-moves (length (moves q))) refl (moves q) refl
-      where
-        turn : Turn G (Regular G d) q → Decides (replier G candidates s q (mover q))
-        turn t = rw (t .moves-of) (replies-decides s (t .side) q (λ u i. let (x, e, r) = t .next u i in (x, e)))
+      replies-decides : (s o : Side) (q : Pos) → Decides q (replies G candidates s o q)
+      unfolding replies
+      replies-decides max max q = tt
+      replies-decides max min q = reply-wins-decides max q (candidates max q) (are-moves max q)
+      replies-decides min max q = reply-wins-decides min q (candidates min q) (are-moves min q)
+      replies-decides min min q = tt
 
-        go : (b : Bool) → ltb max-moves (length (moves q)) ≡ b → (l : List ℕ) → moves q ≡ l → Decides (lost-listed G candidates s q b l)
-        go true e l k = let n = h .narrow in let m = ltb-true max-moves (length (moves q)) e in omega arith
-        go false e [] k = tt
-        go false e (u ∷ l) k = ends (h .turn)
-          where
-            ends : (moves q ≡ []) ⊎ Turn G (Regular G d) q → Decides (replier G candidates s q (mover q))
-            ends (inl x) = absurd (true≢false (cc))
-            ends (inr t) = turn t
+      lost-decides : (s : Side) (q : Pos) → Decides q (lost G candidates s q)
+      unfolding lost lost-listed replier
+      lost-decides s q = go (ltb max-moves (length (moves q))) refl (moves q) refl
+        where
+          side : (moves q ≡ [] → ⊥) → (o : Option Side) → mover q ≡ o → Decides q (replier G candidates s q o)
+          side ne none m = mixed here ne m
+          side ne (some o) m = replies-decides s o q
 
-    lost-regular : (d : ℕ) (s : Side) (q : Pos) (r : Refusal) → Regular G d q → lost G candidates s q ≡ refuse r → ⊥
-    lost-regular d s q r h e = rw e at (lost-decides d s q h)
+          go : (b : Bool) → ltb max-moves (length (moves q)) ≡ b → (l : List ℕ) → moves q ≡ l → Decides q (lost-listed G candidates s q b l)
+          go true e l k = wide here (ltb-true max-moves (length (moves q)) e)
+          go false e [] k = tt
+          go false e (u ∷ l) k = side (λ x. true≢false (cc)) (mover q) refl
+
+      lost-cause : (s : Side) (q : Pos) (r : Refusal) → lost G candidates s q ≡ refuse r → Cause G d q r
+      lost-cause s q r e = rw e at (lost-decides s q)
 
     -- So an order that rearranges, with a filter that is `lost`, is orderly.
     pub orderly : (π : Policy Pos) → ((h : π .History) (b : Option ℕ) (s : Side) (l : List (Child Pos)) (c : Child Pos) → (c ∈ l → c ∈ π .arrange h b s l) × (c ∈ π .arrange h b s l → c ∈ l)) →
@@ -135,5 +132,5 @@ module _ (G : Game) (R : Rules G) where
     orderly π rearranges same = record {
       arranged = rearranges;
       lost-forces = λ s q e. lost-forces s q (sym (same s q) ∙ e);
-      lost-regular = λ d s q r h e. lost-regular d s q r h (sym (same s q) ∙ e);
+      lost-cause = λ d s q r e. lost-cause d s q r (sym (same s q) ∙ e);
     }

@@ -19,7 +19,7 @@ use Rattle.words.proofs.Lists.{and-true, all-in, in-all}
 use Rattle.theory.proofs.Settling.{play-settles, settles-play, settles-fires, settles-unique, mover-side, side-mover}
 
 -- there is no move, or one side to move
-abbrev sided : List ℕ → Option Side → Bool
+abbrev pub sided : List ℕ → Option Side → Bool
 sided [] s = true
 sided (t ∷ l) none = false
 sided (t ∷ l) (some s) = true
@@ -41,12 +41,12 @@ module _ (net : Net) where
 
   -- what the test says of one position
 
-  record Fit (d : ℕ) (m : Marking) : Type 0 where
-    narrow : length (moves net m) ≤ max-moves
-    side : sided (moves net m) (mover net m) ≡ true
-    next : (t : ℕ) → t ∈ moves net m → (q : Marking) × (play net m t ≡ to q) × (fits d q ≡ true)
+  pub record Fit (d : ℕ) (m : Marking) : Type 0 where
+    pub narrow : length (moves net m) ≤ max-moves
+    pub side : sided (moves net m) (mover net m) ≡ true
+    pub next : (t : ℕ) → t ∈ moves net m → (q : Marking) × (play net m t ≡ to q) × (fits d q ≡ true)
 
-  fit : (d : ℕ) (m : Marking) → fits (suc d) m ≡ true → Fit d m
+  pub fit : (d : ℕ) (m : Marking) → fits (suc d) m ≡ true → Fit d m
   unfolding fits
   fit d m e =
       let (a, c) = and-true _ (all (λ t. leads (fits d) (play net m t)) (moves net m)) e in

@@ -1,9 +1,11 @@
--- What is proved of the definitions of crate rules, for any game, memo, order and scale that meets `Laws`. `Theorems` has the results for the call.
+-- What is proved of the definitions of crate rules. `Demand3` is to be read first: demand 3 and the meaning of each answer, for every accepted input.
+-- `Theorems` has the results for the call over any game, memo, order and scale that meets `Laws`.
 -- Theorem 1, `Sound`: fail-soft alpha-beta is sound. Theorem 2, `Budget` and `Runs`: the budget is exact. Theorem 3, `Drivers`: a run gives the exact
 -- value. Theorem 4, `Choose` and `Call`: the key's child has the root's value, under the premises on play the minimax value.
--- `Memo`: the memo meets `Laws`. `Counting`: a count for each run, or one throughout. `Simulation`, `InStep`, `Floats`: f64 in step with integers.
+-- `Causes`: a refusal from the state has a cause in play. `Memo`: the memo meets `Laws`. `Counting`: a count for each run, or one throughout. `Simulation`, `InStep`, `Floats`: f64 in step with integers.
+-- `NetCall`: the game, the settings and the drivers of a net within the limits meet all that `Theorems` asks; `SheetLimits`: an accepted sheet gives such a net.
 -- Assumes nothing.
-
+pub mod Demand3
 -- tests, order, and what the sides can force
 pub mod Tests
 pub mod Laws
@@ -28,6 +30,7 @@ pub mod Row
 pub mod Children
 pub mod Sound
 pub mod Budget
+pub mod Causes
 pub mod Regular
 pub mod Scale
 pub mod Drivers
@@ -41,6 +44,27 @@ pub mod Counting
 pub mod MemoInStep
 pub mod Floats
 pub mod Theorems
+pub mod RootRun
+pub mod MemoWide
 -- play on a net
 pub mod Settling
 pub mod Fits
+-- the sheet: what an accepted one gives, and which input is accepted
+pub mod NetLimits
+pub mod SheetLines
+pub mod SheetRows
+pub mod SheetLimits
+pub mod Accepted
+-- the game of a net: scores and values, markings, premises, order and filters, f64
+pub mod Sums
+pub mod Values
+pub mod NetRules
+pub mod NetMarking
+pub mod NetRegular
+pub mod NetCauses
+pub mod NetPolicy
+pub mod NetOrder
+pub mod NetFloats
+-- the call on a net
+pub mod NetCall
+pub mod Sheets

@@ -16,7 +16,7 @@ use Rattle.rules.specs.Memo.{mix, remix, Shape, rows, Memo, Look, hit, free, fu
 use Rattle.theory.proofs.Tests.{and-true}
 use Rattle.theory.proofs.Words.{mix-lt, remix-lt, share-lt}
 
-words-equal : (k l : List ℕ) → eq-list k l ≡ true → k ≡ l
+pub words-equal : (k l : List ℕ) → eq-list k l ≡ true → k ≡ l
 unfolding eq-list
 words-equal [] [] e = refl
 words-equal [] (y ∷ l) e = cc

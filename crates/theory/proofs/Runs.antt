@@ -1,25 +1,17 @@
--- Runs and the choice of the key: their budget is exact, and under the premises on play nothing is refused.
+-- Runs and the choice of the key: their budget is exact.
 -- Assumes nothing.
-use mathlib.Core.Path.{_≡_, refl}
-use mathlib.Core.Bool.{Bool, true, false, true≢false}
+use mathlib.Core.Path.{refl}
+use mathlib.Core.Bool.{Bool, true, false}
 use mathlib.Core.Option.{Option, none, some}
 use mathlib.Core.List.{List, [], _∷_, _++_}
-use mathlib.Core.Logic.{_⊎_, inl, inr}
 use Prim.Native.Nat.{ℕ, zero, suc, _+_, _-_, _/_}
-use native.Mathlib.Omega.{arith}
 use lib.Dec.{ltb}
-use lib.ListN.{length}
-use borrow.Author.Tests.{ltb-true}
-use Rattle.rules.specs.Limits.{max-moves}
 use Rattle.rules.specs.Game.{Game, Side, Played, to, stopped, eqv}
-use Rattle.rules.specs.Search.{Interval, Entry, window, Memory, Settings, State, Run, Search, alpha-beta}
-use Rattle.rules.specs.Drivers.{Scale, Driver, single, scout, mtd, rung, onward, sided, begun, stepped, scout-from, mtd-next, mtd-test, mtd-from, mtd-begin, run}
+use Rattle.rules.specs.Search.{Entry, window, Memory, Settings, Run, Search, alpha-beta}
+use Rattle.rules.specs.Drivers.{Scale, Driver, single, scout, mtd, rung, sided, begun, stepped, scout-from, mtd-next, mtd-test, mtd-from, mtd-begin, run}
 use Rattle.rules.specs.Choose.{child-run, matched, check-played, check, remembered, root, chosen}
 use Rattle.theory.specs.Counted.{choose-counted}
-use Rattle.theory.specs.Regular.{Turn, Level, Regular}
 use Rattle.theory.proofs.Budget.{Budgeted, budgeted-pure, budgeted-then, BudgetedSearch, alpha-beta-budgeted}
-use Rattle.theory.proofs.Regular.{Valued, valued-then, alpha-beta-valued}
-use Rattle.theory.proofs.Laws.{Lawful}
 
 -- The budget.
 
@@ -30,17 +22,17 @@ module _ (G : Game) (S : Settings G) (B : ℕ) where
   module _ (f g : Search G S) (ih : BudgetedSearch G S B f g) (p : Pos) where
     stepped-budgeted : (x : Bool) (v : Value) (m n : Run G S Value) → Budgeted G S B m n → Budgeted G S B (stepped G S x v m) (stepped G S x v n)
     unfolding stepped
-    stepped-budgeted true v m n h = record { grows = h .grows; within = h .within }
-    stepped-budgeted false v m n h = budgeted-pure G S B _ (λ st. refl)
+    stepped-budgeted true v m n h = record { unspent = h .unspent; grows = h .grows; within = h .within }
+    stepped-budgeted false v m n h = budgeted-pure G S B _ (λ st. refl) (λ st. tt)
 
     scout-budgeted : (σ : Scale G) (s : Side) (r n : ℕ) → Budgeted G S B (scout-from G S σ f p s r n) (scout-from G S σ g p s r n)
     unfolding scout-from
-    scout-budgeted σ s zero n = budgeted-pure G S B _ (λ st. refl)
+    scout-budgeted σ s zero n = budgeted-pure G S B _ (λ st. refl) (λ st. tt)
     scout-budgeted σ s (suc r) n = budgeted-then G S B _ _ _ _ (ih p (window s (rung G σ s n) (rung G σ s (suc n)))) (λ v. stepped-budgeted _ _ _ _ (scout-budgeted σ s r (suc n)))
 
     mtd-budgeted : (σ : Scale G) (r i j : ℕ) → Budgeted G S B (mtd-from G S σ f p r i j) (mtd-from G S σ g p r i j)
     unfolding mtd-from mtd-test mtd-next
-    mtd-budgeted σ zero i j = budgeted-pure G S B _ (λ st. refl)
+    mtd-budgeted σ zero i j = budgeted-pure G S B _ (λ st. refl) (λ st. tt)
     mtd-budgeted σ (suc r) i j = go (mtd-budgeted σ r) (ltb i j)
       where
         next : ((i j : ℕ) → Budgeted G S B (mtd-from G S σ f p r i j) (mtd-from G S σ g p r i j)) → (v : Value) (x : Bool) → Budgeted G S B (mtd-next G S σ x v i j (mtd-from G S σ f p r)) (mtd-next G S σ x v i j (mtd-from G S σ g p r))
@@ -48,7 +40,7 @@ module _ (G : Game) (S : Settings G) (B : ℕ) where
         next rest v false = rest i _
 
         go : ((i j : ℕ) → Budgeted G S B (mtd-from G S σ f p r i j) (mtd-from G S σ g p r i j)) → (x : Bool) → Budgeted G S B (mtd-test G S σ f p x i j (mtd-from G S σ f p r)) (mtd-test G S σ g p x i j (mtd-from G S σ g p r))
-        go rest false = budgeted-pure G S B _ (λ st. refl)
+        go rest false = budgeted-pure G S B _ (λ st. refl) (λ st. tt)
         go rest true =
             let k = i + (j - i - 1) / 2 in
             budgeted-then G S B _ _ _ _ (ih p (record { lo = σ .at k; hi = σ .at (suc k) })) (λ v. next rest v (leb (σ .at (suc k)) v))
@@ -60,19 +52,20 @@ module _ (G : Game) (S : Settings G) (B : ℕ) where
 
     begun-budgeted : (b : Bool) (l : List ℕ) (m n : Side → Run G S Value) → ((s : Side) → Budgeted G S B (m s) (n s)) → Budgeted G S B (begun G S p b l m) (begun G S p b l n)
     unfolding begun sided
-    begun-budgeted true l m n h = budgeted-pure G S B _ (λ st. refl)
-    begun-budgeted false [] m n h = budgeted-pure G S B _ (λ st. refl)
+    begun-budgeted true l m n h = budgeted-pure G S B _ (λ st. refl) (λ st. tt)
+    begun-budgeted false [] m n h = budgeted-pure G S B _ (λ st. refl) (λ st. tt)
     begun-budgeted false (t ∷ l) m n h = go (mover p)
       where
         go : (o : Option Side) → Budgeted G S B (sided G S o m) (sided G S o n)
-        go none = budgeted-pure G S B _ (λ st. refl)
-        go (some s) = record { grows = h s .grows; within = h s .within }
+        go none = budgeted-pure G S B _ (λ st. refl) (λ st. tt)
+        go (some s) = record { unspent = h s .unspent; grows = h s .grows; within = h s .within }
 
     pub run-budgeted : (δ : Driver G) → Budgeted G S B (run G S δ f p) (run G S δ g p)
     unfolding run
-    run-budgeted single = record { grows = ih p _ .grows; within = ih p _ .within }
+    run-budgeted single = record { unspent = ih p _ .unspent; grows = ih p _ .grows; within = ih p _ .within }
     run-budgeted (scout σ) = begun-budgeted _ (moves p) _ _ (λ s. scout-budgeted σ s (σ .gaps) 0)
     run-budgeted (mtd σ) = begun-budgeted _ (moves p) _ _ (λ s. record {
+      unspent = λ z. mtd-begin-budgeted σ (get (z .memo) p) .unspent z;
       grows = λ z. mtd-begin-budgeted σ (get (z .memo) p) .grows z;
       within = λ z. mtd-begin-budgeted σ (get (z .memo) p) .within z;
     })
@@ -80,113 +73,38 @@ module _ (G : Game) (S : Settings G) (B : ℕ) where
   module _ (f g : Pos → Run G S Value) (ih : (p : Pos) → Budgeted G S B (f p) (g p)) (p : Pos) where
     child-budgeted : (q : Pos) (l : List ℕ) → Budgeted G S B (child-run G S f q l) (child-run G S g q l)
     unfolding child-run
-    child-budgeted q [] = budgeted-pure G S B _ (λ st. refl)
-    child-budgeted q (t ∷ l) = record { grows = ih q .grows; within = ih q .within }
+    child-budgeted q [] = budgeted-pure G S B _ (λ st. refl) (λ st. tt)
+    child-budgeted q (t ∷ l) = record { unspent = ih q .unspent; grows = ih q .grows; within = ih q .within }
 
     check-budgeted : (v : Value) (l : List ℕ) → Budgeted G S B (check G S f p v l) (check G S g p v l)
     unfolding check check-played matched
-    check-budgeted v [] = budgeted-pure G S B _ (λ st. refl)
+    check-budgeted v [] = budgeted-pure G S B _ (λ st. refl) (λ st. tt)
     check-budgeted v (t ∷ l) = go (check-budgeted v l) (play p t)
       where
         match : Budgeted G S B (check G S f p v l) (check G S g p v l) → (x : Bool) → Budgeted G S B (matched G S x t v (check G S f p v l)) (matched G S x t v (check G S g p v l))
-        match rest true = budgeted-pure G S B _ (λ st. refl)
-        match rest false = record { grows = rest .grows; within = rest .within }
+        match rest true = budgeted-pure G S B _ (λ st. refl) (λ st. tt)
+        match rest false = record { unspent = rest .unspent; grows = rest .grows; within = rest .within }
 
         go : Budgeted G S B (check G S f p v l) (check G S g p v l) → (y : Played Pos) → Budgeted G S B (check-played G S f y t v (check G S f p v l)) (check-played G S g y t v (check G S g p v l))
-        go rest (stopped r) = budgeted-pure G S B _ (λ st. refl)
+        go rest (stopped r) = budgeted-pure G S B _ (λ st. refl) (λ st. tt)
         go rest (to q) = budgeted-then G S B _ _ _ _ (child-budgeted q (moves q)) (λ x. match rest (eqv G x v))
 
     root-budgeted : (o : Option Side) → Budgeted G S B (root G S f p o) (root G S g p o)
     unfolding root
-    root-budgeted none = budgeted-pure G S B _ (λ st. refl)
+    root-budgeted none = budgeted-pure G S B _ (λ st. refl) (λ st. tt)
     root-budgeted (some s) = budgeted-then G S B _ _ _ _ (ih p) (λ v. record {
+      unspent = λ z. check-budgeted v (remembered G S (moves p) (get (z .memo) p) ++ moves p) .unspent z;
       grows = λ z. check-budgeted v (remembered G S (moves p) (get (z .memo) p) ++ moves p) .grows z;
       within = λ z. check-budgeted v (remembered G S (moves p) (get (z .memo) p) ++ moves p) .within z;
     })
 
     chosen-budgeted : (b : Bool) (l : List ℕ) → Budgeted G S B (chosen G S f p b l) (chosen G S g p b l)
     unfolding chosen
-    chosen-budgeted b [] = budgeted-pure G S B _ (λ st. refl)
-    chosen-budgeted true (t ∷ l) = budgeted-pure G S B _ (λ st. refl)
+    chosen-budgeted b [] = budgeted-pure G S B _ (λ st. refl) (λ st. tt)
+    chosen-budgeted true (t ∷ l) = budgeted-pure G S B _ (λ st. refl) (λ st. tt)
     chosen-budgeted false (t ∷ l) = root-budgeted (mover p)
 
   -- THEOREM 2 for the whole call: N is the count that it reaches with no budget.
   pub choose-counted-budgeted : (δ : Driver G) (d : ℕ) (p : Pos) → Budgeted G S B (choose-counted G S δ none d p) (choose-counted G S δ (some B) d p)
   unfolding choose-counted
   choose-counted-budgeted δ d p = chosen-budgeted _ _ (λ q. run-budgeted (alpha-beta G S none d) (alpha-beta G S (some B) d) (alpha-beta-budgeted G S B d) q δ) p _ (moves p)
-
--- No refusal.
-
--- a position that is regular for `d` is regular for more
-pub regular-more : (G : Game) (d : ℕ) (p : G .Pos) → Regular G d p → Regular G (suc d) p
-regular-more G zero p h = absurd h
-regular-more G (suc d) p h = record { narrow = h .narrow; turn = go (regular-more G d) (h .turn) }
-  where
-    go : ((q : G .Pos) → Regular G d q → Regular G (suc d) q) → (G .moves p ≡ []) ⊎ Turn G (Regular G d) p → (G .moves p ≡ []) ⊎ Turn G (Regular G (suc d)) p
-    go more (inl e) = inl e
-    go more (inr t) = inr (record { side = t .side; moves-of = t .moves-of; next = λ u i. let (q, e, r) = t .next u i in (q, e, more q r) })
-
-module _ (G : Game) (S : Settings G) where
-  open Game G using (Value, leb, Pos, moves, mover, play)
-  open Memory (S .memory) using (get)
-
-  abbrev pub ValuedRun : {A : Type 0} → Run G S A → Type 0
-  ValuedRun m = (st : State S) → Valued (m st .0)
-
-  module _ (f : Search G S) (p : Pos) (ih : (w : Interval Value) → ValuedRun (f p w)) where
-    scout-valued : (σ : Scale G) (s : Side) (r n : ℕ) → ValuedRun (scout-from G S σ f p s r n)
-    unfolding scout-from stepped
-    scout-valued σ s zero n st = tt
-    scout-valued σ s (suc r) n st = valued-then G S _ _ st (ih _ st) (λ v z. go (scout-valued σ s r (suc n)) (onward G σ s _ v) z)
-      where
-        go : ValuedRun (scout-from G S σ f p s r (suc n)) → (x : Bool) → ValuedRun (stepped G S x (rung G σ s n) (scout-from G S σ f p s r (suc n)))
-        go rest true z = rest z
-        go rest false z = tt
-
-    mtd-valued : (σ : Scale G) (r i j : ℕ) → ValuedRun (mtd-from G S σ f p r i j)
-    unfolding mtd-from mtd-test mtd-next
-    mtd-valued σ zero i j st = tt
-    mtd-valued σ (suc r) i j st = go (mtd-valued σ r) (ltb i j)
-      where
-        next : ((i j : ℕ) → ValuedRun (mtd-from G S σ f p r i j)) → (v : Value) (x : Bool) → ValuedRun (mtd-next G S σ x v i j (mtd-from G S σ f p r))
-        next rest v true = rest _ j
-        next rest v false = rest i _
-
-        go : ((i j : ℕ) → ValuedRun (mtd-from G S σ f p r i j)) → (x : Bool) → Valued (mtd-test G S σ f p x i j (mtd-from G S σ f p r) st .0)
-        go rest false = tt
-        go rest true =
-            let k = i + (j - i - 1) / 2 in
-            valued-then G S _ _ st (ih (record { lo = σ .at k; hi = σ .at (suc k) }) st) (λ v. next rest v (leb (σ .at (suc k)) v))
-
-    mtd-begin-valued : (σ : Scale G) (o : Option (Entry Value)) → ValuedRun (mtd-begin G S σ f p o)
-    unfolding mtd-begin
-    mtd-begin-valued σ none = mtd-valued σ _ _ _
-    mtd-begin-valued σ (some e) = mtd-valued σ _ _ _
-
-  -- a position with few enough moves, all of one side
-  module _ (below : Pos → Type 0) (p : Pos) (h : Level G below p) where
-    pub not-wide : ltb max-moves (length (moves p)) ≡ true → ⊥
-    not-wide e = let k = ltb-true max-moves (length (moves p)) e in let n = h .narrow in omega arith
-
-    pub turn-of : (t : ℕ) (l : List ℕ) → moves p ≡ t ∷ l → Turn G below p
-    turn-of t l e = go (h .turn)
-      where
-        go : (moves p ≡ []) ⊎ Turn G below p → Turn G below p
-        go (inl k) = absurd (true≢false (cc))
-        go (inr k) = k
-
-    begun-valued : (b : Bool) (l : List ℕ) (k : Side → Run G S Value) → ltb max-moves (length (moves p)) ≡ b → moves p ≡ l → ((s : Side) → ValuedRun (k s)) → ValuedRun (begun G S p b l k)
-    unfolding begun sided
-    begun-valued true l k w e v st = not-wide w
-    begun-valued false [] k w e v st = tt
-    begun-valued false (t ∷ l) k w e v st = rw (turn-of t l e .moves-of) (v (turn-of t l e .side) st)
-
-module _ (G : Game) (S : Settings G) (M : Lawful G S) where
-  open Game G using (Pos, moves)
-  open Memory (S .memory) using (get)
-
-  pub run-valued : (d : ℕ) (δ : Driver G) (p : Pos) → Regular G (suc d) p → ValuedRun G S (run G S δ (alpha-beta G S none (suc d)) p)
-  unfolding run
-  run-valued d single p h st = alpha-beta-valued G S M (suc d) p _ st h
-  run-valued d (scout σ) p h st = begun-valued G S (Regular G d) p h _ (moves p) _ refl refl (λ s. scout-valued G S (alpha-beta G S none (suc d)) p (λ w z. alpha-beta-valued G S M (suc d) p w z h) σ s (σ .gaps) 0) st
-  run-valued d (mtd σ) p h st = begun-valued G S (Regular G d) p h _ (moves p) _ refl refl (λ s z. mtd-begin-valued G S (alpha-beta G S none (suc d)) p (λ w y. alpha-beta-valued G S M (suc d) p w y h) σ (get (z .memo) p) z) st

@@ -1,6 +1,9 @@
--- Notions of the proofs, which no contract cites: what a side can force, the premises on play, choosing with one count, key words of markings.
+-- Notions of the proofs: what a side can force, the premises on play, the causes of refusals and their conditions in 01's words, choosing with one count,
+-- key words of markings.
 -- Assumes nothing.
 pub mod Forces
 pub mod Regular
+pub mod Causes
 pub mod Counted
 pub mod Marking
+pub mod Conditions
