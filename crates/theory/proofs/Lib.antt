@@ -54,7 +54,8 @@ pub mod NetLimits
 pub mod SheetLines
 pub mod SheetRows
 pub mod SheetLimits
-pub mod Accepted
+pub mod Inputs
+pub mod Refusals
 -- the game of a net: scores and values, markings, premises, order and filters, f64
 pub mod Sums
 pub mod Values

@@ -6,6 +6,7 @@ use mathlib.Core.Option.{Option}
 use mathlib.Core.List.{List, []}
 use Prim.Native.Nat.{ℕ, max as maxℕ}
 use Rattle.words.specs.Words.{bit-length}
+use Rattle.rules.specs.Limits.{first-generation}
 use Rattle.rules.specs.Game.{Game, to}
 use Rattle.rules.specs.Search.{Entry, merge, Policy, Settings, State}
 use Rattle.rules.specs.Memo.{Shape, Memo, cleared, Code, memory, locate, slot, old-work, put, found, kept, memo-store}
@@ -50,9 +51,9 @@ module _ (s : Shape) (G : Game) (C : Code (G .Value)) (key : G .Pos → List ℕ
     abbrev law : Lawful G (record { memory = memory s G C key; policy = π })
     law = record { rules = R; table = wide-tabled; order = o }
 
-    start-sound : Sound G settings law (cleared s)
+    start-sound : Sound G settings law (cleared first-generation s)
     start-sound = let h = cleared-sound s G C key Ok Real F R keeps π o in record { well = (h .well, refl); rows = h .rows }
 
-    pub choose-no-dict : (δ : Driver G) → Driven G δ → (b : Option ℕ) (d : ℕ) (p : G .Pos) (st : State settings) → Real p → st .memo ≡ cleared s → Fits b (st .nodes) →
+    pub choose-no-dict : (δ : Driver G) → Driven G δ → (b : Option ℕ) (d : ℕ) (p : G .Pos) (st : State settings) → Real p → st .memo ≡ cleared first-generation s → Fits b (st .nodes) →
         choose G settings δ b d p st .1 .memo .dict ≡ []
     choose-no-dict δ t b d p st r e f = choose-sound G settings law δ t b d p st r (rw e start-sound) f .sound .well .1

@@ -7,30 +7,20 @@ use mathlib.Core.Option.{Option, none, some}
 use mathlib.Core.List.{List, [], _∷_, map, flatMap, List·Memᴰ·head, List·Memᴰ·tail, List·Memᴰ·cases-cons, List·Memᴰ·not-nil, List·Memᴰ·append-cases}
 use mathlib.Core.Logic.{⊎-elim}
 use Prim.Native.Nat.{ℕ}
-use lib.Dec.{eqb, leb, ltb}
-use lib.ListN.{length}
-use Rattle.words.specs.Lists.{range, contains, filter}
+use lib.Dec.{leb, ltb}
+use Rattle.words.specs.Lists.{range, empty, filter}
 use Rattle.words.proofs.Lists.{and-true, and-both, filter-in, filter-passes, in-filter}
 use Rattle.whole.specs.Int.{eqZ}
 use Rattle.rules.specs.Net.{Net, turn, has-role, side-of}
 use Rattle.rules.specs.Game.{Side, opp, side-number, _∈_}
-use Rattle.rules.specs.Play.{Marking, enabled, moves}
-use Rattle.rules.specs.Goals.{distinct, goals, goals-of, deficit, touch, feeders, reach, close, replies-of}
+use Rattle.rules.specs.Play.{Marking, enabled, enabled-of, moves}
+use Rattle.rules.specs.Goals.{goals, goals-of, deficit, touch, feeders, reach, close, replies-of}
 use Rattle.rules.specs.Order.{piece, keys, larger, arrange}
 use Rattle.rules.specs.NetGame.{int-game, policy}
 use Rattle.theory.proofs.Laws.{Orderly}
 use Rattle.theory.proofs.Filter.{orderly}
 use Rattle.theory.proofs.Sort.{sort-in}
 use Rattle.theory.proofs.NetRules.{net-rules}
-
-distinct-in : {u : ℕ} (seen l : List ℕ) → u ∈ distinct seen l → u ∈ l
-unfolding distinct
-distinct-in seen [] i = i
-distinct-in {u} seen (x ∷ l) i = go (contains seen x) (distinct-in seen l) (distinct-in (x ∷ seen) l) i
-  where
-    go : (b : Bool) → (u ∈ distinct seen l → u ∈ l) → (u ∈ distinct (x ∷ seen) l → u ∈ l) → u ∈ cond b (distinct seen l) (x ∷ distinct (x ∷ seen) l) → u ∈ x ∷ l
-    go true f g i = List·Memᴰ·tail (f i)
-    go false f g i = ⊎-elim List·Memᴰ·head (λ j. List·Memᴰ·tail (g j)) (List·Memᴰ·cases-cons i)
 
 flat-in : {u : ℕ} (f : ℕ → List ℕ) (l : List ℕ) → u ∈ flatMap f l → (g : ℕ) × (u ∈ f g)
 unfolding flatMap
@@ -40,7 +30,7 @@ flat-in f (g ∷ l) i = ⊎-elim (λ j. (g, j)) (flat-in f l) (List·Memᴰ·app
 module _ (net : Net) where
   -- what can complete a goal is a move
   close-moves : (s : Side) (m : Marking) (g : ℕ) (d : Option ℕ) (u : ℕ) → u ∈ close net s m g d → u ∈ moves net m
-  unfolding close feeders moves
+  unfolding close feeders moves enabled-of
   close-moves s m g none u i = absurd (List·Memᴰ·not-nil i)
   close-moves s m g (some d) u i = go (leb d (reach net s g)) i
     where
@@ -58,12 +48,12 @@ module _ (net : Net) where
 
   pub replies-moves : (s : Side) (m : Marking) (u : ℕ) → u ∈ replies-of net s m → u ∈ moves net m
   unfolding replies-of
-  replies-moves s m u i = go (eqb (length (goals net)) 0) i
+  replies-moves s m u i = go (empty (goals net)) i
     where
-      go : (b : Bool) → u ∈ cond b (moves net m) (distinct [] (flatMap (λ g. close net s m g (deficit net m g)) (goals-of net s))) → u ∈ moves net m
+      go : (b : Bool) → u ∈ cond b (moves net m) (flatMap (λ g. close net s m g (deficit net m g)) (goals-of net s)) → u ∈ moves net m
       go true i = i
       go false i =
-          let (g, j) = flat-in (λ g. close net s m g (deficit net m g)) (goals-of net s) (distinct-in [] _ i) in
+          let (g, j) = flat-in (λ g. close net s m g (deficit net m g)) (goals-of net s) i in
           close-moves s m g (deficit net m g) u j
 
   pub net-orderly : (filters : ℕ) (chain : List ℕ) → Orderly (int-game net) (policy net filters chain)

@@ -11,9 +11,9 @@ use lib.ListN.{length, getD}
 use Rattle.words.specs.Lists.{eq-list}
 use Rattle.rules.specs.Text.{bytes, split}
 use Rattle.rules.specs.Game.{_∈_}
-use Rattle.rules.specs.Sheet.{Field, dash, Form, forms, form-of, Line, bind, read-field, read-fields, read-line}
+use Rattle.rules.specs.Sheet.{Field, dash, Form, forms, form-of, Fields, bind, read-field, read-fields, read-line}
 
-pub record Shaped (l : Line) : Type 0 where
+pub record Shaped (l : Fields) : Type 0 where
   pub form-in : l .of ∈ forms
   pub no-at : l .of .at-field ≡ dash → l .at ≡ pos 0
 
@@ -37,7 +37,7 @@ dash-zero f text z d e = go (eq-list text (bytes "-")) (rw d at e)
     go true e = cc
     go false e = absurd (true≢false (cc))
 
-fields-shaped : (w a p m c : List ℕ) (l : Line) → read-fields w a p m c ≡ some l → Shaped l
+fields-shaped : (w a p m c : List ℕ) (l : Fields) → read-fields w a p m c ≡ some l → Shaped l
 unfolding read-fields
 fields-shaped w a p m c l e =
     let (f, ef, e1) = bind-some (form-of w forms) _ l e in
@@ -50,13 +50,13 @@ fields-shaped w a p m c l e =
     go : (f : Form) (x y z b : ℤ) → form-of w forms ≡ some f → read-field (f .at-field) a ≡ some x → l ≡ record { of = f; at = x; place = y; n = z; bound = b } → Shaped l
     go f x y z b ef ex same = rw same (record { form-in = form-of-in w forms f ef; no-at = λ d. dash-zero (f .at-field) a x d ex })
 
-pub line-shaped : (text : List ℕ) (l : Line) → read-line text ≡ some l → Shaped l
+pub line-shaped : (text : List ℕ) (l : Fields) → read-line text ≡ some l → Shaped l
 unfolding read-line
 line-shaped text l e =
     let parts = split 32 text in
     go (eqb (length parts) 5) (read-fields (getD parts 0 []) (getD parts 1 []) (getD parts 2 []) (getD parts 3 []) (getD parts 4 [])) refl e
   where
-    go : (b : Bool) (o : Option Line) → read-fields (getD (split 32 text) 0 []) (getD (split 32 text) 1 []) (getD (split 32 text) 2 []) (getD (split 32 text) 3 []) (getD (split 32 text) 4 []) ≡ o →
+    go : (b : Bool) (o : Option Fields) → read-fields (getD (split 32 text) 0 []) (getD (split 32 text) 1 []) (getD (split 32 text) 2 []) (getD (split 32 text) 3 []) (getD (split 32 text) 4 []) ≡ o →
         cond b o none ≡ some l → Shaped l
     go true o h e = fields-shaped _ _ _ _ _ l (h ∙ e)
     go false o h e = absurd (true≢false (cc))

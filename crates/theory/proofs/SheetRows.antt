@@ -13,7 +13,7 @@ use Rattle.whole.proofs.Ints.{ints, parts}
 use Rattle.rules.specs.Limits.{max-size, max-number}
 use Rattle.rules.specs.Net.{Kind, size, code, Net, is}
 use Rattle.rules.specs.Game.{_∈_}
-use Rattle.rules.specs.Sheet.{dash, transition, place, Form, form, unsigned, forms, Line, in-field, in-range, row-of}
+use Rattle.rules.specs.Sheet.{dash, transition, place, Form, form, unsigned, forms, Fields, in-field, in-range, row-of}
 use Rattle.theory.proofs.NetLimits.{Between, KindLimits, RowLimits, limited-kind}
 use Rattle.theory.proofs.SheetLines.{Shaped}
 
@@ -34,7 +34,7 @@ between a b z e = let (x, y) = and-true (leZ a z) (leZ z b) e in (omega ints, om
 
 module _ (net : Net) (x y z b : ℤ) where
   -- numbers that fit the fields of a form
-  record Fields (f : Form) : Type 0 where
+  record InFields (f : Form) : Type 0 where
     at-fits : in-field net (f .at-field) x ≡ true
     place-fits : in-field net (f .place-field) y ≡ true
     n-fits : in-field net (f .n-field) z ≡ true
@@ -42,7 +42,7 @@ module _ (net : Net) (x y z b : ℤ) where
     at-dash : f .at-field ≡ dash → x ≡ pos 0
 
   abbrev Limits : Form → Type 0
-  Limits f = (eqb (code (f .kind)) (code size) ≡ false) → Fields f → KindLimits (net .transitions) (net .places) (f .kind) (natAbs x) (natAbs y) z b
+  Limits f = (eqb (code (f .kind)) (code size) ≡ false) → InFields f → KindLimits (net .transitions) (net .places) (f .kind) (natAbs x) (natAbs y) z b
 
   each-limits : Each Limits forms
   unfolding forms
@@ -78,12 +78,12 @@ module _ (net : Net) (x y z b : ℤ) where
     ),
   )
     where
-      arc : {A : Type 0} {k : Kind} {w : List ℕ} → A → Fields (form k w transition place unsigned dash true) → (natAbs x < net .transitions) × (natAbs y < net .places) × Between (pos 0) (pos max-number) z
+      arc : {A : Type 0} {k : Kind} {w : List ℕ} → A → InFields (form k w transition place unsigned dash true) → (natAbs x < net .transitions) × (natAbs y < net .places) × Between (pos 0) (pos max-number) z
       arc n h = (index (net .transitions) x (h .at-fits), index (net .places) y (h .place-fits), between (pos 0) (pos max-number) z (h .n-fits))
 
   -- a line `size`
   abbrev Sizes : Form → Type 0
-  Sizes f = (eqb (code (f .kind)) (code size) ≡ true) → Fields f → Between (pos 1) (pos max-size) x × Between (pos 1) (pos max-size) y
+  Sizes f = (eqb (code (f .kind)) (code size) ≡ true) → InFields f → Between (pos 1) (pos max-size) x × Between (pos 1) (pos max-size) y
 
   each-sizes : Each Sizes forms
   unfolding forms
@@ -92,7 +92,7 @@ module _ (net : Net) (x y z b : ℤ) where
       no : {A : Type 0} → false ≡ true → A
       no e = absurd (true≢false (sym e))
 
-line-fields : (net : Net) (l : Line) → Shaped l → in-range net l ≡ true → Fields net (l .at) (l .place) (l .n) (l .bound) (l .of)
+line-fields : (net : Net) (l : Fields) → Shaped l → in-range net l ≡ true → InFields net (l .at) (l .place) (l .n) (l .bound) (l .of)
 unfolding in-range
 line-fields net l s e =
     let (abc, d) = and-true _ (in-field net (l .of .cap-field) (l .bound)) e in
@@ -100,15 +100,15 @@ line-fields net l s e =
     let (a, b) = and-true (in-field net (l .of .at-field) (l .at)) (in-field net (l .of .place-field) (l .place)) ab in
     record { at-fits = a; place-fits = b; n-fits = c; bound-fits = d; at-dash = s .no-at }
 
-pub sizes-within : (net : Net) (l : Line) → Shaped l → in-range net l ≡ true → is size (row-of l) ≡ true → Between (pos 1) (pos max-size) (l .at) × Between (pos 1) (pos max-size) (l .place)
+pub sizes-within : (net : Net) (l : Fields) → Shaped l → in-range net l ≡ true → is size (row-of l) ≡ true → Between (pos 1) (pos max-size) (l .at) × Between (pos 1) (pos max-size) (l .place)
 sizes-within net l s e n =
     each-in (Sizes net (l .at) (l .place) (l .n) (l .bound)) (l .of) forms (each-sizes net (l .at) (l .place) (l .n) (l .bound)) (s .form-in) n (line-fields net l s e)
 
-pub row-within : (net : Net) (l : Line) → Shaped l → in-range net l ≡ true → is size (row-of l) ≡ false → RowLimits net (row-of l)
+pub row-within : (net : Net) (l : Fields) → Shaped l → in-range net l ≡ true → is size (row-of l) ≡ false → RowLimits net (row-of l)
 row-within net l s e n =
     each-in (Limits net (l .at) (l .place) (l .n) (l .bound)) (l .of) forms (each-limits net (l .at) (l .place) (l .n) (l .bound)) (s .form-in) n (line-fields net l s e)
 
 -- the kinds of limited number, by the table
-pub limited-is : (l : Line) → Shaped l → l .of .limited ≡ limited-kind (l .of .kind)
+pub limited-is : (l : Fields) → Shaped l → l .of .limited ≡ limited-kind (l .of .kind)
 unfolding forms
 limited-is l s = each-in (λ f. f .limited ≡ limited-kind (f .kind)) (l .of) forms (refl, (refl, (refl, (refl, (refl, (refl, (refl, (refl, (refl, (refl, (refl, tt))))))))))) (s .form-in)

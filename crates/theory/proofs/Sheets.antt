@@ -14,9 +14,9 @@ use Rattle.whole.specs.Int.{sumZ}
 use Rattle.rules.specs.declared.Refusal.{Refusal}
 use Rattle.rules.specs.Text.{split, decimal, natural, number}
 use Rattle.rules.specs.Net.{Net, rows-of, arcs, total, has-role, side-of}
-use Rattle.rules.specs.Sheet.{Reading, accepted, refused, forms, form-of, read-fields, read-line, in-range, full, repeated, complete, check, read-lines, read-size, read-parts, read-sheet}
+use Rattle.rules.specs.Sheet.{Reading, accepted, unread, forms, form-of, read-fields, read-line, in-range, full, repeated, complete, check, read-lines, read-size, read-parts, read-sheet}
 use Rattle.rules.specs.Game.{to, _∈_}
-use Rattle.rules.specs.Play.{Marking, binary, pack, condition, common, start, rows-at, enabled, stays, after, fire, next-auto, settle, play, moves, mover, score}
+use Rattle.rules.specs.Play.{Marking, binary, pack, condition, common, start, rows-at, enabled, stays, after, fire, enabled-of, next-auto, settle, play, moves, mover, score}
 use Rattle.rules.specs.Minimax.{Worth, pick, both, value-after, best, level, minimax}
 use Rattle.rules.specs.Premises.{Premises}
 use Rattle.rules.specs.NetGame.{int-game, levels}
@@ -25,7 +25,7 @@ use Rattle.rules.specs.Call.{Request, settings-fit, goals-missing, memory-fits,
 use Rattle.rules.specs.Cases.{first-sheet, two-plies}
 use Rattle.theory.proofs.Fits.{fits, fits-premises}
 use Rattle.theory.proofs.Minimax.{played-worth, worth-unique, minimax-worth}
-use Rattle.theory.proofs.Accepted.{input-accepted}
+use Rattle.theory.proofs.Inputs.{none-accepted}
 use Rattle.theory.proofs.NetRules.{net-rules}
 use Rattle.theory.proofs.Demand3.{MinimaxAnswer, Demand3, demand-3}
 
@@ -51,13 +51,13 @@ pub record Known (sheet : List ℕ) : Type 0 where
 -- What is computed: the refusal of the input, the test of the premises, the first move, and the values of the start and of the position after move 0.
 data Tested : Type 0 where
   found : Option Refusal → Bool → Option ℕ → Option ℤ → Option ℤ → Tested
-  unread : Tested
+  failed : Tested
 
 abbrev tested : List ℕ → Reading → Tested
 tested sheet (accepted net) =
     found (input-refusal net (request sheet)) (fits net levels (start net)) (head? (moves net (start net))) (minimax (int-game net) levels (start net))
     (value-after (int-game net) (minimax (int-game net) levels) (play net (start net) 0))
-tested sheet (refused r n) = unread
+tested sheet (unread r n) = failed
 
 abbrev passed : Tested
 passed = found none true (some 0) (some (pos 1)) (some (pos 1))
@@ -83,11 +83,11 @@ known : (sheet : List ℕ) → tested sheet (read-sheet sheet) ≡ passed → Kn
 known sheet e = record { taken = go (read-sheet sheet) refl e; solved = λ net k. tested-solved sheet net (rw k at e) }
   where
     go : (x : Reading) → read-sheet sheet ≡ x → tested sheet x ≡ passed → (net : Net) × Accepted (request sheet) net
-    go (accepted net) k e = (net, input-accepted (request sheet) net k (cc e))
-    go (refused r n) k e = absurd (true≢false (cc))
+    go (accepted net) k e = (net, none-accepted net (request sheet) k (cc e))
+    go (unread r n) k e = absurd (true≢false (cc))
 
 computed : (tested first-sheet (read-sheet first-sheet) ≡ passed) × (tested two-plies (read-sheet two-plies) ≡ passed)
-unfolding range-from sum eq-list filter all any sumZ split decimal natural number rows-of arcs total has-role side-of forms form-of read-fields read-line in-range full repeated complete check read-lines read-size read-parts read-sheet binary pack condition common start rows-at enabled stays after fire next-auto settle play moves mover score pick both value-after best level minimax fits values subset-sums with-reward entered settings-fit goals-missing memory-fits unsettled input-refusal
+unfolding range-from sum eq-list filter all any sumZ split decimal natural number rows-of arcs total has-role side-of forms form-of read-fields read-line in-range full repeated complete check read-lines read-size read-parts read-sheet binary pack condition common start rows-at enabled stays after fire enabled-of next-auto settle play moves mover score pick both value-after best level minimax fits values subset-sums with-reward entered settings-fit goals-missing memory-fits unsettled input-refusal
 computed = (refl, refl)
 
 pub first-known : Known first-sheet
