@@ -6,6 +6,8 @@
 -- `NetCall`: the game, the settings and the drivers of a net within the limits meet all that `Theorems` asks; `SheetLimits`: an accepted sheet gives such a net.
 -- Assumes nothing.
 pub mod Demand3
+pub mod Answers
+pub mod KnuthMoore
 -- tests, order, and what the sides can force
 pub mod Tests
 pub mod Laws

@@ -1,0 +1,115 @@
+-- Each refusal by its number: 1 to 3 exactly where reading refuses, 4 to 7 exactly where its condition is the first that holds, 8 to 12 only where its condition
+-- is met in play; and what each answer leaves of the lent memory (01, "Refused from the input", "Refused from the state").
+-- Assumes nothing.
+use mathlib.Core.Path.{_≡_, refl, sym, ap, _∙_}
+use mathlib.Core.Bool.{true≢false}
+use mathlib.Core.Option.{some}
+use mathlib.Core.List.{List, _++_}
+use Prim.Native.Nat.{ℕ, _+_, _≤_, _<_}
+use native.Mathlib.Omega.{arith}
+use lib.Ieee.{Float}
+use lib.ListN.{drop, replicate}
+use Rattle.rules.specs.declared.Refusal.{Refusal}
+use Rattle.rules.specs.declared.Answer.{Answer}
+use Rattle.rules.specs.declared.Answer.the-variants.{Exact, None, Spent, Refused}
+use Rattle.rules.specs.Net.{Net}
+use Rattle.rules.specs.Sheet.{accepted, unread, read-sheet}
+use Rattle.rules.specs.Play.{Marking, start}
+use Rattle.rules.specs.Search.{Outcome, value, spent, refused, State}
+use Rattle.rules.specs.Choose.{Choice, no-move, no-child, key}
+use Rattle.rules.specs.Answer.{refusal-number}
+use Rattle.rules.specs.Call.{Request, Result, memo-words, memo-tags, settings-of, first-state, choice, Accepted, ended, call}
+use Rattle.theory.specs.Conditions.{Condition, mixed, move-spills, auto-spills, endless, wide, deep}
+use Rattle.theory.proofs.Inputs.{First, settings, no-goals, memory, unsettled-start}
+use Rattle.theory.proofs.Refusals.{unread-early, Because, by-sheet, by-input, by-state, Went, unread-sheet, bad-input, was-accepted, went, call-unread, call-input, call-searched, refused-because, because-refused}
+use Rattle.theory.proofs.Demand3.{Means, answer-means}
+
+-- the numbers of the conditions
+
+first-number : {net : Net} {r : Request} {x : Refusal} → First net r x → (4 ≤ refusal-number x) × (refusal-number x ≤ 7)
+first-number (settings n) = (omega arith, omega arith)
+first-number (no-goals w g) = (omega arith, omega arith)
+first-number (memory w g n) = (omega arith, omega arith)
+first-number (unsettled-start w g m u) = (omega arith, omega arith)
+
+pub condition-number : {net : Net} {m : Marking} {x : Refusal} → Condition net m x → 8 ≤ refusal-number x
+condition-number (mixed l i n) = omega arith
+condition-number (move-spills l i e) = omega arith
+condition-number (auto-spills l i e f k a s) = omega arith
+condition-number (endless l i e f) = omega arith
+condition-number (wide l w) = omega arith
+condition-number (deep l d) = omega arith
+
+module _ (r : Request) where
+  -- a refusal from the state has a number from 8 on, and its condition is met in play from the start
+  state-condition : {net : Net} {x : Refusal} {l n : ℕ} → Accepted r net → call r .answer ≡ Refused x l n → Condition net (start net) x
+  state-condition {net} {x} {l} {n} A e = let means : Means r net (Refused x l n) = rw e at (answer-means A) in means .3
+
+  -- 1 TO 3, with its line: exactly where reading gives it.
+  pub refused-reading : (x : Refusal) (l n : ℕ) → refusal-number x ≤ 3 → call r .answer ≡ Refused x l n → (read-sheet (r .sheet) ≡ unread x l) × (n ≡ 0)
+  refused-reading x l n h e = go (refused-because r x l n e)
+    where
+      go : Because r x l n → (read-sheet (r .sheet) ≡ unread x l) × (n ≡ 0)
+      go (by-sheet k c) = (k, c)
+      go (by-input net k f a c) = absurd (omega (arith, first-number f .0))
+      go (by-state net A o a c) = absurd (omega (arith, condition-number (state-condition A e)))
+
+  pub reading-refused : (x : Refusal) (l : ℕ) → read-sheet (r .sheet) ≡ unread x l → (call r .answer ≡ Refused x l 0) × (refusal-number x ≤ 3)
+  reading-refused x l e = (because-refused r x l 0 (by-sheet e refl), unread-early (r .sheet) x l e)
+
+  -- 4 TO 7: exactly where the sheet is read and its condition is the first that holds.
+  pub refused-input : (x : Refusal) (l n : ℕ) → 4 ≤ refusal-number x → refusal-number x ≤ 7 → call r .answer ≡ Refused x l n
+      → (net : Net) × (read-sheet (r .sheet) ≡ accepted net) × First net r x × (l ≡ 0) × (n ≡ 0)
+  refused-input x l n h k e = go (refused-because r x l n e)
+    where
+      go : Because r x l n → (net : Net) × (read-sheet (r .sheet) ≡ accepted net) × First net r x × (l ≡ 0) × (n ≡ 0)
+      go (by-sheet a c) = absurd (omega (arith, unread-early (r .sheet) x l a))
+      go (by-input net a f b c) = (net, a, f, b, c)
+      go (by-state net A o a c) = absurd (omega (arith, condition-number (state-condition A e)))
+
+  pub input-refused : (net : Net) (x : Refusal) → read-sheet (r .sheet) ≡ accepted net → First net r x → call r .answer ≡ Refused x 0 0
+  input-refused net x e f = because-refused r x 0 0 (by-input net e f refl refl)
+
+  -- 8 TO 12: only where the input is accepted and the condition is met in play from the start.
+  pub refused-state : (x : Refusal) (l n : ℕ) → 8 ≤ refusal-number x → call r .answer ≡ Refused x l n → (net : Net) × Accepted r net × Condition net (start net) x
+  refused-state x l n h e = go (refused-because r x l n e)
+    where
+      go : Because r x l n → (net : Net) × Accepted r net × Condition net (start net) x
+      go (by-sheet a c) = absurd (omega (arith, unread-early (r .sheet) x l a))
+      go (by-input net a f b c) = absurd (omega (arith, first-number f .1))
+      go (by-state net A o a c) = (net, A, state-condition A e)
+
+  -- Memory. After 1 to 7 it is untouched.
+  pub early-untouched : (x : Refusal) (l n : ℕ) → refusal-number x ≤ 7 → call r .answer ≡ Refused x l n → (call r .words ≡ r .words) × (call r .tags ≡ r .tags)
+  early-untouched x l n h e = go (went r)
+    where
+      go : Went r → (call r .words ≡ r .words) × (call r .tags ≡ r .tags)
+      go (unread-sheet y k a) = (ap (λ (z : Result). z .words) (call-unread r y k a), ap (λ (z : Result). z .tags) (call-unread r y k a))
+      go (bad-input net y a b) = (ap (λ (z : Result). z .words) (call-input r net y a b), ap (λ (z : Result). z .tags) (call-input r net y a b))
+      go (was-accepted net A) = absurd (omega (arith, condition-number (state-condition A e)))
+
+-- After any other answer the memo's part holds these words and tags, and what lies behind it is as it was.
+pub record Left (net : Net) (r : Request) (z : Result) (words tags : List ℕ) : Type 0 where
+  pub words-left : z .words ≡ words ++ drop (memo-words net r) (r .words)
+  pub tags-left : z .tags ≡ tags ++ drop (memo-tags net r) (r .tags)
+
+-- `none` and refusals 8 to 12 leave zeros, an exact answer and `spent` what the last store left
+abbrev pub Leaves : (net : Net) (r : Request) → State (settings-of net r) → Result → Answer → Type 0
+Leaves net r st z (Exact t v n) = Left net r z (st .memo .words) (st .memo .tags)
+Leaves net r st z None = Left net r z (replicate (memo-words net r) 0) (replicate (memo-tags net r) 0)
+Leaves net r st z (Spent n) = Left net r z (st .memo .words) (st .memo .tags)
+Leaves net r st z (Refused x l n) = Left net r z (replicate (memo-words net r) 0) (replicate (memo-tags net r) 0)
+
+pub memory-left : (r : Request) (net : Net) → Accepted r net → Leaves net r (choice net r (some (r .budget)) (start net) (first-state net r) .1) (call r) (call r .answer)
+unfolding ended
+memory-left r net A = rw (call-searched r net A) (go (end .0))
+  where
+    end : Outcome (Choice Float) × State (settings-of net r)
+    end = choice net r (some (r .budget)) (start net) (first-state net r)
+
+    go : (o : Outcome (Choice Float)) → Leaves net r (end .1) (ended net r o (end .1)) (ended net r o (end .1) .answer)
+    go (value no-move) = record { words-left = refl; tags-left = refl }
+    go (value no-child) = record { words-left = refl; tags-left = refl }
+    go (value (key t v)) = record { words-left = refl; tags-left = refl }
+    go spent = record { words-left = refl; tags-left = refl }
+    go (refused x) = record { words-left = refl; tags-left = refl }
