@@ -8,6 +8,7 @@
 pub mod Demand3
 pub mod Answers
 pub mod KnuthMoore
+pub mod MemoSize
 -- tests, order, and what the sides can force
 pub mod Tests
 pub mod Laws
