@@ -1,2 +1,2 @@
 -- Laws of the memo's rows, of its dictionary and of f64 bounds, on plain values.
-pub mod Rows
+pub mod RowParts
