@@ -1,3 +1,4 @@
 -- Laws of the memo's rows, of its dictionary and of f64 bounds, on plain values.
 pub mod RowParts
 pub mod Looks
+pub mod Replace
