@@ -2,3 +2,5 @@
 pub mod RowParts
 pub mod Looks
 pub mod Replace
+pub mod Floats
+pub mod Reading
