@@ -4,3 +4,5 @@ pub mod Looks
 pub mod Replace
 pub mod Floats
 pub mod Reading
+pub mod Dictionary
+pub mod Writing
