@@ -10,9 +10,7 @@ use lib.Ieee.Bits.{nanBits-is, nanBits-above}
 use Rattle.words.proofs.Lists.{not-both}
 use Rattle.rules.specs.Memo.{or-else}
 use Rattle.rules.specs.Codes.{float-number}
-
-abbrev pub Real : Float → Type 0
-Real x = T (not (isNan x))
+use Rattle.memo.specs.Sized.{Real}
 
 -- no order with a NaN
 le-nan : (x : Float) → le x nan ≡ false

@@ -6,3 +6,4 @@ pub mod Floats
 pub mod Reading
 pub mod Dictionary
 pub mod Writing
+pub mod Storing
