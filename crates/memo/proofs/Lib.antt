@@ -7,3 +7,4 @@ pub mod Reading
 pub mod Dictionary
 pub mod Writing
 pub mod Storing
+pub mod Games
