@@ -1,14 +1,12 @@
 -- f64 that are no NaN, and the bits of one. Assumes nothing.
-use mathlib.Core.Path.{_≡_, refl, sym, ap, subst, _∙_}
-use mathlib.Core.Bool.{Bool, true, false, not, cond, _&&_}
-use mathlib.Core.Option.{Option, none, some}
+use mathlib.Core.Path.{_≡_, refl, sym, _∙_}
+use mathlib.Core.Bool.{true, false, not}
+use mathlib.Core.Option.{none}
 use Prim.Native.Nat.{ℕ, _*_, _^_, _%_}
-use native.Mathlib.Omega.{arith}
 use lib.Dec.{T, ltb}
 use lib.Ieee.{Float, nan, inf, fin, binary64, ofBits, lt, le, eq, isNan, nanBits}
 use lib.Ieee.Bits.{nanBits-is, nanBits-above}
 use Rattle.words.proofs.Lists.{not-both}
-use Rattle.rules.specs.Memo.{or-else}
 use Rattle.rules.specs.Codes.{float-number}
 use Rattle.memo.specs.Sized.{Real}
 

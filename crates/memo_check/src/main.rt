@@ -70,7 +70,23 @@ fn get(words: &[u64], tags: &[u8], dict: &[u64], table: memo::Table, st: State, 
 {
     let all: u64 = 0xFFFF_FFFF_FFFF_FFFF;
     let kw = table.key_words;
-    let g = memo::get(words, tags, dict, st.n, table, -1000000.0, 1000000.0, key(at, 0, kw), key(at, 1, kw), key(at, 2, kw), key(at, 3, kw), all, all, all, all);
+    let g = memo::get(
+        words,
+        tags,
+        dict,
+        st.n,
+        table,
+        -1000000.0,
+        1000000.0,
+        key(at, 0, kw),
+        key(at, 1, kw),
+        key(at, 2, kw),
+        key(at, 3, kw),
+        all,
+        all,
+        all,
+        all,
+    );
     State {
         seed: st.seed,
         n: st.n,
@@ -88,7 +104,17 @@ fn best(r: u64) -> u64
 }
 
 // Stores an entry whose bounds lie between -1,000,000 and 1,000,000; how many words the dictionary then has.
-fn store_entry(words: &mut [u64], tags: &mut [u8], dict: &mut [u64], table: memo::Table, n: usize, generation: u64, at: u64, e: memo::Entry, nodes: u64) -> usize
+fn store_entry(
+    words: &mut [u64],
+    tags: &mut [u8],
+    dict: &mut [u64],
+    table: memo::Table,
+    n: usize,
+    generation: u64,
+    at: u64,
+    e: memo::Entry,
+    nodes: u64,
+) -> usize
     requires { ⌜ Sized table (now words) (now tags) (now dict) n × (generation < 128) × (at < 4096) × (e .best < 2 ^ 32) ⌝ }
     ensures { λ r. ⌜ r ≤ 255 ⌝ }
 {
@@ -97,7 +123,22 @@ fn store_entry(words: &mut [u64], tags: &mut [u8], dict: &mut [u64], table: memo
         if e.lo <= 1000000.0 {
             if -1000000.0 <= e.hi {
                 if e.hi <= 1000000.0 {
-                    return memo::store(words, tags, dict, n, generation, table, -1000000.0, 1000000.0, key(at, 0, kw), key(at, 1, kw), key(at, 2, kw), key(at, 3, kw), e, nodes);
+                    return memo::store(
+                        words,
+                        tags,
+                        dict,
+                        n,
+                        generation,
+                        table,
+                        -1000000.0,
+                        1000000.0,
+                        key(at, 0, kw),
+                        key(at, 1, kw),
+                        key(at, 2, kw),
+                        key(at, 3, kw),
+                        e,
+                        nodes,
+                    );
                 }
             }
         }
@@ -106,7 +147,15 @@ fn store_entry(words: &mut [u64], tags: &mut [u8], dict: &mut [u64], table: memo
 }
 
 // One turn: a get of the key drawn, a store by two more numbers, or a new generation.
-fn turn(words: &mut [u64], tags: &mut [u8], dict: &mut [u64], table: memo::Table, st: State, pool: u64, span: u64) -> State
+fn turn(
+    words: &mut [u64],
+    tags: &mut [u8],
+    dict: &mut [u64],
+    table: memo::Table,
+    st: State,
+    pool: u64,
+    span: u64,
+) -> State
     requires { ⌜ Sized table (now words) (now tags) (now dict) (st .n) × (st .generation < 128) × (0 < pool) × (pool ≤ 4096) × (0 < span) × (span ≤ 1000001) ⌝ }
     ensures { λ r. ⌜ (r .n ≤ 255) × (r .generation < 128) ⌝ }
 {
@@ -116,7 +165,19 @@ fn turn(words: &mut [u64], tags: &mut [u8], dict: &mut [u64], table: memo::Table
     let kind = b % 64;
     let at = a / 64 % pool;
     if kind < 24 {
-        return get(words, tags, dict, table, State { seed: c, n: st.n, generation: st.generation, hash: st.hash }, at);
+        return get(
+            words,
+            tags,
+            dict,
+            table,
+            State {
+                seed: c,
+                n: st.n,
+                generation: st.generation,
+                hash: st.hash,
+            },
+            at,
+        );
     }
     if kind == 24 {
         return State {
@@ -131,7 +192,17 @@ fn turn(words: &mut [u64], tags: &mut [u8], dict: &mut [u64], table: memo::Table
         hi: value(c / 64, span),
         best: best(a / 0x1_0000_0000),
     };
-    let n = store_entry(words, tags, dict, table, st.n, st.generation, at, e, c % 0x10000);
+    let n = store_entry(
+        words,
+        tags,
+        dict,
+        table,
+        st.n,
+        st.generation,
+        at,
+        e,
+        c % 0x10000,
+    );
     State {
         seed: c,
         n: n,
@@ -141,7 +212,14 @@ fn turn(words: &mut [u64], tags: &mut [u8], dict: &mut [u64], table: memo::Table
 }
 
 // So many turns. A compact table gets few bounds at first, and then more than its dictionary holds.
-fn turns(words: &mut [u64], tags: &mut [u8], dict: &mut [u64], table: memo::Table, entries: u64, seed: u64) -> State
+fn turns(
+    words: &mut [u64],
+    tags: &mut [u8],
+    dict: &mut [u64],
+    table: memo::Table,
+    entries: u64,
+    seed: u64,
+) -> State
     requires { ⌜ Sized table (now words) (now tags) (now dict) 0 × (entries ≤ 1024) ⌝ }
     ensures { λ r. ⌜ r .n ≤ 255 ⌝ }
 {
@@ -156,7 +234,15 @@ fn turns(words: &mut [u64], tags: &mut [u8], dict: &mut [u64], table: memo::Tabl
     };
     let mut i = 0;
     while i < count {
-        st = turn(words, tags, dict, table, st, pool, span(compact, i * 2 < count));
+        st = turn(
+            words,
+            tags,
+            dict,
+            table,
+            st,
+            pool,
+            span(compact, i * 2 < count),
+        );
         i += 1;
     }
     st
@@ -203,35 +289,95 @@ fn print(n: u64, end: &[u8]) {
     io::write_all(1, end);
 }
 
-// The line of one table.
-fn replay(entries: usize, kw: usize, compact: bool, seed: u64)
-    requires { ⌜ (1 ≤ entries) × (entries ≤ 1024) × (2 ≤ kw) × (kw ≤ 4) ⌝ }
+// A replay on one table: how many words its dictionary then has, and the hash.
+fn run(
+    words: &mut [u64],
+    tags: &mut [u8],
+    dict: &mut [u64],
+    table: memo::Table,
+    entries: u64,
+    seed: u64,
+) -> State
+    requires { ⌜ Sized table (now words) (now tags) (now dict) 0 × (entries ≤ 1024) ⌝ }
 {
-    let mut words = [0u64; 28672];
-    let mut tags = [0u8; 4096];
-    let mut dict = [0u64; 255];
+    memo::clear(words, tags);
+    let st = turns(words, tags, dict, table, entries, seed);
+    let n = st.n;
+    let h = hashed_tags(hashed_words(st.hash, words), tags);
+    State {
+        seed: st.seed,
+        n: n,
+        generation: st.generation,
+        hash: hashed_words(h, &dict[..n]),
+    }
+}
+
+// The line of one table, in memory that is lent.
+fn replay(
+    words: &mut [u64],
+    tags: &mut [u8],
+    dict: &mut [u64],
+    entries: usize,
+    kw: usize,
+    compact: bool,
+    seed: u64,
+)
+    requires { ⌜ (1 ≤ entries) × (entries ≤ 1024) × (2 ≤ kw) × (kw ≤ 4) × (7168 ≤ length (now words)) × (1024 ≤ length (now tags)) × (255 ≤ length (now dict)) ⌝ }
+{
     let table = memo::new_table(entries, 64 * kw, compact);
     let total = memo::table_words(table);
     let rows = memo::rows(table);
-    let st = turns(&mut words[..total], &mut tags[..rows], &mut dict, table, entries as u64, seed);
-    let n = st.n;
-    let h = hashed_words(st.hash, &words[..total]);
-    let h = hashed_tags(h, &tags[..rows]);
-    let h = hashed_words(h, &dict[..n]);
+    let st = run(
+        &mut words[..total],
+        &mut tags[..rows],
+        dict,
+        table,
+        entries as u64,
+        seed,
+    );
     print(entries as u64, b" ");
     print(kw as u64, b" ");
-    print(if compact { 1 } else { 0 }, b" ");
-    print(n as u64, b" ");
-    print(h, b"\n");
+    print(number(compact), b" ");
+    print(st.n as u64, b" ");
+    print(st.hash, b"\n");
 }
 
-const ENTRIES: [usize; 9] = [1, 2, 3, 4, 5, 7, 8, 1023, 1024];
+fn number(b: bool) -> u64 {
+    if b { 1 } else { 0 }
+}
+
+// The entries of table j.
+fn entries_of(j: usize) -> usize
+    ensures { λ r. ⌜ (1 ≤ r) × (r ≤ 1024) ⌝ }
+{
+    match j {
+        0 => 1,
+        1 => 2,
+        2 => 3,
+        3 => 4,
+        4 => 5,
+        5 => 7,
+        6 => 8,
+        7 => 1023,
+        _ => 1024,
+    }
+}
 
 fn main() {
+    let mut words = [0u64; 7168];
+    let mut tags = [0u8; 1024];
+    let mut dict = [0u64; 255];
     let mut i = 0;
     while i < 54 {
-        let entries = ENTRIES[i / 6];
-        replay(entries, 2 + i % 3, i / 3 % 2 == 1, 88172645463325252 + i as u64);
+        replay(
+            &mut words,
+            &mut tags,
+            &mut dict,
+            entries_of(i / 6),
+            2 + i % 3,
+            i / 3 % 2 == 1,
+            88172645463325252 + i as u64,
+        );
         i += 1;
     }
 }

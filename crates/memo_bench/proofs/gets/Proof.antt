@@ -1,13 +1,9 @@
+-- `memo_bench::gets` meets its contract. Assumes nothing.
 use Prim.Native.Nat.{_≤_, _-_}
 use lib.ListN.{length}
 use borrow.Author.Needs.{needs}
 use Rattle.memo_bench.proofs.gets.Statement.{statement}
 use Rattle.memo_bench.proofs.gets.Tie as tie
-use Rattle.memo_bench.proofs.gets.Reads as reads
-use Rattle.memo_bench.proofs.gets.Lts as lts
-use Rattle.memo.proofs.get.Reads as get-reads
-use Rattle.memo_bench.proofs.found.Reads as found-reads
-use Rattle.std.proofs.num.wrapping_add_u64.Reads as wrapping-add-u64-reads
 
 abbrev Inv-loop : tie.InvT-loop
 Inv-loop words tags dict n table keys all sum₀ i₀ sum i = i ≤ length keys
@@ -15,83 +11,63 @@ Inv-loop words tags dict n table keys all sum₀ i₀ sum i = i ≤ length keys
 abbrev μ-loop : tie.MeasureT-loop
 μ-loop words tags dict n table keys all sum₀ i₀ sum i = length keys - i
 
--- src/lib.rt:24:5
 loop-holds : tie.Need-loop-holds Inv-loop μ-loop
 loop-holds c = search needs
 
--- src/lib.rt:24:11
 add-loop : tie.Need-add-loop Inv-loop μ-loop
 add-loop c = search needs
 
--- src/lib.rt:25:67
 mul-get : tie.Need-mul-get Inv-loop μ-loop
 mul-get c = search needs
 
--- src/lib.rt:25:67
 shared-slice-read-get : tie.Need-shared-slice-read-get Inv-loop μ-loop
 shared-slice-read-get c = search needs
 
--- src/lib.rt:25:81
 add-get : tie.Need-add-get Inv-loop μ-loop
 add-get c = search needs
 
--- src/lib.rt:25:76
 mul-get-2 : tie.Need-mul-get-2 Inv-loop μ-loop
 mul-get-2 c = search needs
 
--- src/lib.rt:25:76
 shared-slice-read-get-2 : tie.Need-shared-slice-read-get-2 Inv-loop μ-loop
 shared-slice-read-get-2 c = search needs
 
--- src/lib.rt:25:94
 add-get-2 : tie.Need-add-get-2 Inv-loop μ-loop
 add-get-2 c = search needs
 
--- src/lib.rt:25:89
 mul-get-3 : tie.Need-mul-get-3 Inv-loop μ-loop
 mul-get-3 c = search needs
 
--- src/lib.rt:25:89
 shared-slice-read-get-3 : tie.Need-shared-slice-read-get-3 Inv-loop μ-loop
 shared-slice-read-get-3 c = search needs
 
--- src/lib.rt:25:107
 add-get-3 : tie.Need-add-get-3 Inv-loop μ-loop
 add-get-3 c = search needs
 
--- src/lib.rt:25:102
 mul-get-4 : tie.Need-mul-get-4 Inv-loop μ-loop
 mul-get-4 c = search needs
 
--- src/lib.rt:25:102
 shared-slice-read-get-4 : tie.Need-shared-slice-read-get-4 Inv-loop μ-loop
 shared-slice-read-get-4 c = search needs
 
--- src/lib.rt:25:13
 get-requires : tie.Need-get-requires Inv-loop μ-loop
 get-requires c κs = search needs
 
--- src/lib.rt:26:47
 found-requires : tie.Need-found-requires Inv-loop μ-loop
 found-requires c κs = search needs
 
--- src/lib.rt:26:9
 wrapping-add-u64-requires : tie.Need-wrapping-add-u64-requires Inv-loop μ-loop
 wrapping-add-u64-requires c κs = search needs
 
--- src/lib.rt:27:9
 add-i : tie.Need-add-i Inv-loop μ-loop
 add-i c = search needs
 
--- src/lib.rt:24:5
 loop-less : tie.Need-loop-less Inv-loop μ-loop
 loop-less c = search needs
 
--- src/lib.rt:24:5
 loop-again : tie.Need-loop-again Inv-loop μ-loop
 loop-again c = search needs
 
--- src/lib.rt:18:1
 returns : tie.Need-returns Inv-loop μ-loop
 returns c = search needs
 

@@ -1,12 +1,10 @@
+-- `memo_bench::stores` meets its contract. Assumes nothing.
 use mathlib.Core.Path.{_≡_}
 use Prim.Native.Nat.{_≤_, _-_}
 use lib.ListN.{length}
 use borrow.Author.Needs.{needs}
 use Rattle.memo_bench.proofs.stores.Statement.{statement}
 use Rattle.memo_bench.proofs.stores.Tie as tie
-use Rattle.memo_bench.proofs.stores.Reads as reads
-use Rattle.memo_bench.proofs.stores.Lts as lts
-use Rattle.memo_bench.proofs.store_one.Reads as store-one-reads
 
 abbrev Inv-loop : tie.InvT-loop
 Inv-loop words₀ tags₀ dict₀ n table keys count₀ i₀ words tags dict count i = (i ≤ length keys) × (count ≤ 255) × (length words ≡ length words₀) × (length tags ≡ length tags₀) × (length dict ≡ length dict₀)
@@ -14,87 +12,66 @@ Inv-loop words₀ tags₀ dict₀ n table keys count₀ i₀ words tags dict cou
 abbrev μ-loop : tie.MeasureT-loop
 μ-loop words₀ tags₀ dict₀ n table keys count₀ i₀ words tags dict count i = length keys - i
 
--- src/lib.rt:76:5
 loop-holds : tie.Need-loop-holds Inv-loop μ-loop
 loop-holds c = search needs
 
--- src/lib.rt:76:11
 add-loop : tie.Need-add-loop Inv-loop μ-loop
 add-loop c = search needs
 
--- src/lib.rt:77:60
 mul-store-one : tie.Need-mul-store-one Inv-loop μ-loop
 mul-store-one c = search needs
 
--- src/lib.rt:77:60
 shared-slice-read-store-one : tie.Need-shared-slice-read-store-one Inv-loop μ-loop
 shared-slice-read-store-one c = search needs
 
--- src/lib.rt:77:74
 add-store-one : tie.Need-add-store-one Inv-loop μ-loop
 add-store-one c = search needs
 
--- src/lib.rt:77:69
 mul-store-one-2 : tie.Need-mul-store-one-2 Inv-loop μ-loop
 mul-store-one-2 c = search needs
 
--- src/lib.rt:77:69
 shared-slice-read-store-one-2 : tie.Need-shared-slice-read-store-one-2 Inv-loop μ-loop
 shared-slice-read-store-one-2 c = search needs
 
--- src/lib.rt:77:87
 add-store-one-2 : tie.Need-add-store-one-2 Inv-loop μ-loop
 add-store-one-2 c = search needs
 
--- src/lib.rt:77:82
 mul-store-one-3 : tie.Need-mul-store-one-3 Inv-loop μ-loop
 mul-store-one-3 c = search needs
 
--- src/lib.rt:77:82
 shared-slice-read-store-one-3 : tie.Need-shared-slice-read-store-one-3 Inv-loop μ-loop
 shared-slice-read-store-one-3 c = search needs
 
--- src/lib.rt:77:100
 add-store-one-3 : tie.Need-add-store-one-3 Inv-loop μ-loop
 add-store-one-3 c = search needs
 
--- src/lib.rt:77:95
 mul-store-one-4 : tie.Need-mul-store-one-4 Inv-loop μ-loop
 mul-store-one-4 c = search needs
 
--- src/lib.rt:77:95
 shared-slice-read-store-one-4 : tie.Need-shared-slice-read-store-one-4 Inv-loop μ-loop
 shared-slice-read-store-one-4 c = search needs
 
--- src/lib.rt:77:9
 store-one-requires : tie.Need-store-one-requires Inv-loop μ-loop
 store-one-requires c κs = search needs
 
--- src/lib.rt:78:9
 add-i : tie.Need-add-i Inv-loop μ-loop
 add-i c = search needs
 
--- src/lib.rt:76:5
 loop-less : tie.Need-loop-less Inv-loop μ-loop
 loop-less c = search needs
 
--- src/lib.rt:76:5
 loop-again : tie.Need-loop-again Inv-loop μ-loop
 loop-again c = search needs
 
--- src/lib.rt:70:1
 same-length : tie.Need-same-length Inv-loop μ-loop
 same-length c = search needs
 
--- src/lib.rt:70:1
 same-length-2 : tie.Need-same-length-2 Inv-loop μ-loop
 same-length-2 c = search needs
 
--- src/lib.rt:70:1
 same-length-3 : tie.Need-same-length-3 Inv-loop μ-loop
 same-length-3 c = search needs
 
--- src/lib.rt:70:1
 returns : tie.Need-returns Inv-loop μ-loop
 returns c = search needs
 

@@ -1,18 +1,15 @@
+-- `memo_check::bits` meets its contract. Assumes nothing.
+use Rattle.memo.proofs.Floats.{real-left}
 use borrow.Author.Needs.{needs}
 use Rattle.memo_check.proofs.bits.Statement.{statement}
 use Rattle.memo_check.proofs.bits.Tie as tie
-use Rattle.memo_check.proofs.bits.Reads as reads
-use Rattle.memo_check.proofs.bits.Lts as lts
 
--- src/main.rt:38:17
 float-to-bits-result : tie.Need-float-to-bits-result
-float-to-bits-result c = ?
+float-to-bits-result c = real-left (c .before .args .v) (c .before .args .v) (c .if1 .taken)
 
--- src/main.rt:37:1
 returns : tie.Need-returns
 returns c = search needs
 
--- src/main.rt:37:1
 returns-2 : tie.Need-returns-2
 returns-2 c = search needs
 

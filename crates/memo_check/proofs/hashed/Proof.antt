@@ -1,38 +1,32 @@
+-- `memo_check::hashed` meets its contract. Assumes nothing.
+use Prim.Native.Nat.{_≤_, _-_}
+use borrow.Author.Needs.{needs}
 use Rattle.memo_check.proofs.hashed.Statement.{statement}
 use Rattle.memo_check.proofs.hashed.Tie as tie
-use Rattle.memo_check.proofs.hashed.Reads as reads
-use Rattle.memo_check.proofs.hashed.Lts as lts
-use Rattle.words.proofs.wrapping_mul64.Reads as wrapping-mul64-reads
 
 abbrev Inv-loop : tie.InvT-loop
-Inv-loop h w sum₀ rest₀ j₀ sum rest j = ?
+Inv-loop h w sum₀ rest₀ j₀ sum rest j = j ≤ 8
 
 abbrev μ-loop : tie.MeasureT-loop
-μ-loop h w sum₀ rest₀ j₀ sum rest j = ?
+μ-loop h w sum₀ rest₀ j₀ sum rest j = 8 - j
 
--- src/main.rt:28:5
 loop-holds : tie.Need-loop-holds Inv-loop μ-loop
-loop-holds c = ?
+loop-holds c = search needs
 
--- src/main.rt:29:9
 wrapping-mul64-requires : tie.Need-wrapping-mul64-requires Inv-loop μ-loop
-wrapping-mul64-requires c κs = ?
+wrapping-mul64-requires c κs = search needs
 
--- src/main.rt:31:9
 add-j : tie.Need-add-j Inv-loop μ-loop
-add-j c = ?
+add-j c = search needs
 
--- src/main.rt:28:5
 loop-less : tie.Need-loop-less Inv-loop μ-loop
-loop-less c = ?
+loop-less c = search needs
 
--- src/main.rt:28:5
 loop-again : tie.Need-loop-again Inv-loop μ-loop
-loop-again c = ?
+loop-again c = search needs
 
--- src/main.rt:24:1
 returns : tie.Need-returns Inv-loop μ-loop
-returns c = ?
+returns c = search needs
 
 pub hashed-spec : {M : Type 1} → statement M
 hashed-spec =

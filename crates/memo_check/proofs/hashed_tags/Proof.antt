@@ -1,47 +1,39 @@
+-- `memo_check::hashed_tags` meets its contract. Assumes nothing.
+use Prim.Native.Nat.{_≤_, _-_}
+use lib.ListN.{length}
+use borrow.Author.Needs.{needs}
 use Rattle.memo_check.proofs.hashed_tags.Statement.{statement}
 use Rattle.memo_check.proofs.hashed_tags.Tie as tie
-use Rattle.memo_check.proofs.hashed_tags.Reads as reads
-use Rattle.memo_check.proofs.hashed_tags.Lts as lts
-use Rattle.memo_check.proofs.wide.Reads as wide-reads
-use Rattle.words.proofs.wrapping_mul64.Reads as wrapping-mul64-reads
 
 abbrev Inv-loop : tie.InvT-loop
-Inv-loop h tags sum₀ i₀ sum i = ?
+Inv-loop h tags sum₀ i₀ sum i = i ≤ length tags
 
 abbrev μ-loop : tie.MeasureT-loop
-μ-loop h tags sum₀ i₀ sum i = ?
+μ-loop h tags sum₀ i₀ sum i = length tags - i
 
--- src/main.rt:190:5
 loop-holds : tie.Need-loop-holds Inv-loop μ-loop
-loop-holds c = ?
+loop-holds c = search needs
 
--- src/main.rt:191:48
 shared-slice-read-wide : tie.Need-shared-slice-read-wide Inv-loop μ-loop
-shared-slice-read-wide c = ?
+shared-slice-read-wide c = search needs
 
--- src/main.rt:191:43
 wide-requires : tie.Need-wide-requires Inv-loop μ-loop
-wide-requires c κs = ?
+wide-requires c κs = search needs
 
--- src/main.rt:191:9
 wrapping-mul64-requires : tie.Need-wrapping-mul64-requires Inv-loop μ-loop
-wrapping-mul64-requires c κs = ?
+wrapping-mul64-requires c κs = search needs
 
--- src/main.rt:192:9
 add-i : tie.Need-add-i Inv-loop μ-loop
-add-i c = ?
+add-i c = search needs
 
--- src/main.rt:190:5
 loop-less : tie.Need-loop-less Inv-loop μ-loop
-loop-less c = ?
+loop-less c = search needs
 
--- src/main.rt:190:5
 loop-again : tie.Need-loop-again Inv-loop μ-loop
-loop-again c = ?
+loop-again c = search needs
 
--- src/main.rt:187:1
 returns : tie.Need-returns Inv-loop μ-loop
-returns c = ?
+returns c = search needs
 
 pub hashed-tags-spec : {M : Type 1} → statement M
 hashed-tags-spec =

@@ -1,27 +1,25 @@
+-- `memo_check::value` meets its contract. Assumes nothing.
+use Prim.Native.Nat.{_%_}
+use native.Mathlib.Omega.{arith}
+use native.Mathlib.Nat.{mod-lt}
+use mir.Syntax.{w64}
+use mir.Facts.{toZ-pos}
 use borrow.Author.Needs.{needs}
 use Rattle.memo_check.proofs.value.Statement.{statement}
 use Rattle.memo_check.proofs.value.Tie as tie
-use Rattle.memo_check.proofs.value.Reads as reads
-use Rattle.memo_check.proofs.value.Lts as lts
-use Rattle.whole.proofs.of_i64.Reads as of-i64-reads
 
--- src/main.rt:45:28
 rem-of-i64 : tie.Need-rem-of-i64
 rem-of-i64 c = search needs
 
--- src/main.rt:45:27
 cast-of-i64 : tie.Need-cast-of-i64
-cast-of-i64 c = ?
+cast-of-i64 c = record { sfits = omega (arith, mod-lt (c .args .r) (c .pre .0)) }
 
--- src/main.rt:45:9
 of-i64-requires : tie.Need-of-i64-requires
-of-i64-requires c κs = ?
+of-i64-requires c κs = rw (toZ-pos w64 {n = c .args .r % c .args .span} (omega (arith, mod-lt (c .args .r) (c .pre .0)))) (record { size = omega (arith, mod-lt (c .args .r) (c .pre .0)) })
 
--- src/main.rt:42:1
 returns : tie.Need-returns
 returns c = search needs
 
--- src/main.rt:42:1
 returns-2 : tie.Need-returns-2
 returns-2 c = search needs
 
