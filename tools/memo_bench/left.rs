@@ -12,7 +12,3 @@ pub(crate) fn tags(t: &Table) -> &[u8] {
 pub(crate) fn dict(t: &Table) -> &[u64] {
     &t.dict
 }
-
-pub(crate) fn generation(t: &Table) -> u64 {
-    t.generation
-}
