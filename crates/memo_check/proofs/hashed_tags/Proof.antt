@@ -1,0 +1,51 @@
+-- `memo_check::hashed_tags` meets its contract. Assumes nothing.
+use Prim.Native.Nat.{_≤_, _-_}
+use lib.ListN.{length}
+use borrow.Author.Needs.{needs}
+use Rattle.memo_check.proofs.hashed_tags.Statement.{statement}
+use Rattle.memo_check.proofs.hashed_tags.Tie as tie
+
+abbrev Inv-loop : tie.InvT-loop
+Inv-loop h tags sum₀ i₀ sum i = i ≤ length tags
+
+abbrev μ-loop : tie.MeasureT-loop
+μ-loop h tags sum₀ i₀ sum i = length tags - i
+
+loop-holds : tie.Need-loop-holds Inv-loop μ-loop
+loop-holds c = search needs
+
+shared-slice-read-wide : tie.Need-shared-slice-read-wide Inv-loop μ-loop
+shared-slice-read-wide c = search needs
+
+wide-requires : tie.Need-wide-requires Inv-loop μ-loop
+wide-requires c κs = search needs
+
+wrapping-mul64-requires : tie.Need-wrapping-mul64-requires Inv-loop μ-loop
+wrapping-mul64-requires c κs = search needs
+
+add-i : tie.Need-add-i Inv-loop μ-loop
+add-i c = search needs
+
+loop-less : tie.Need-loop-less Inv-loop μ-loop
+loop-less c = search needs
+
+loop-again : tie.Need-loop-again Inv-loop μ-loop
+loop-again c = search needs
+
+returns : tie.Need-returns Inv-loop μ-loop
+returns c = search needs
+
+pub hashed-tags-spec : {M : Type 1} → statement M
+hashed-tags-spec =
+    tie.close
+    (tie.spec
+    Inv-loop
+    μ-loop
+    loop-holds
+    shared-slice-read-wide
+    wide-requires
+    wrapping-mul64-requires
+    add-i
+    loop-less
+    loop-again
+    returns)

@@ -1,0 +1,383 @@
+// Replays sequences of stores and gets, and writes for each table a line: entries, key words, 1 if compact, words in the dictionary, and a hash.
+// The file stdout is what the Rust's memo gives on the same sequences (tools/memo_bench/run replay). The hash is FNV-1a, 64 bits, of the bytes, low first,
+// of what each get answers (its bounds' bits and best move, or 7), and then of every word and tag of the table and every word of the dictionary.
+ghost use Prim.Native.Nat.{_^_, _≤_, _<_};
+ghost use lib.ListN.{length};
+ghost use Rattle.memo.specs.Sized.{Measured, Sized};
+
+// Where a replay stands.
+struct State {
+    seed: u64,
+    n: usize,
+    generation: u64,
+    hash: u64,
+}
+
+// The next number of a sequence (xorshift, 64 bits).
+fn next(s: u64) -> u64 {
+    let a = s ^ (s << 13);
+    let b = a ^ (a >> 7);
+    b ^ (b << 17)
+}
+
+// A hash with the eight bytes of a word.
+fn hashed(h: u64, w: u64) -> u64 {
+    let mut sum = h;
+    let mut rest = w;
+    let mut j: u64 = 0;
+    while j < 8 {
+        sum = words::wrapping_mul64(sum ^ (rest % 256), 0x100_0000_01B3);
+        rest = rest / 256;
+        j += 1;
+    }
+    sum
+}
+
+// The bits of a bound.
+fn bits(v: f64) -> u64 {
+    if v <= v { f64::to_bits(v) } else { 0 }
+}
+
+// A whole number of size below span, by a number of the sequence.
+fn value(r: u64, span: u64) -> f64
+    requires { ⌜ (0 < span) × (span ≤ 1000001) ⌝ }
+{
+    let v = whole::of_i64((r % span) as i64);
+    if r / 0x10_0000 % 2 == 0 { v } else { 0.0 - v }
+}
+
+// Word j of key number at, 0 past the table's key words.
+fn key(at: u64, j: u64, kw: usize) -> u64
+    requires { ⌜ (at < 4096) × (j < 4) ⌝ }
+{
+    if (j as usize) < kw {
+        words::wrapping_mul64(at * 4 + j + 1, 0xD6E8_FEB8_6659_FD93)
+    } else {
+        0
+    }
+}
+
+fn hashed_got(h: u64, g: memo::Got) -> u64 {
+    match g {
+        memo::Got::Hit(e) => hashed(hashed(hashed(h, bits(e.lo)), bits(e.hi)), e.best),
+        memo::Got::Miss => hashed(h, 7),
+    }
+}
+
+fn get(words: &[u64], tags: &[u8], dict: &[u64], table: memo::Table, st: State, at: u64) -> State
+    requires { ⌜ Sized table (now words) (now tags) (now dict) (st .n) × (st .generation < 128) × (at < 4096) ⌝ }
+    ensures { λ r. ⌜ (r .n ≤ 255) × (r .generation < 128) ⌝ }
+{
+    let all: u64 = 0xFFFF_FFFF_FFFF_FFFF;
+    let kw = table.key_words;
+    let g = memo::get(
+        words,
+        tags,
+        dict,
+        st.n,
+        table,
+        -1000000.0,
+        1000000.0,
+        key(at, 0, kw),
+        key(at, 1, kw),
+        key(at, 2, kw),
+        key(at, 3, kw),
+        all,
+        all,
+        all,
+        all,
+    );
+    State {
+        seed: st.seed,
+        n: st.n,
+        generation: st.generation,
+        hash: hashed_got(st.hash, g),
+    }
+}
+
+// The best move by a number of the sequence: one of 256, or none.
+fn best(r: u64) -> u64
+    ensures { λ r. ⌜ r < 2 ^ 32 ⌝ }
+{
+    let t = r % 257;
+    if t == 256 { memo::NO_MOVE } else { t }
+}
+
+// Stores an entry whose bounds lie between -1,000,000 and 1,000,000; how many words the dictionary then has.
+fn store_entry(
+    words: &mut [u64],
+    tags: &mut [u8],
+    dict: &mut [u64],
+    table: memo::Table,
+    n: usize,
+    generation: u64,
+    at: u64,
+    e: memo::Entry,
+    nodes: u64,
+) -> usize
+    requires { ⌜ Sized table (now words) (now tags) (now dict) n × (generation < 128) × (at < 4096) × (e .best < 2 ^ 32) ⌝ }
+    ensures { λ r. ⌜ r ≤ 255 ⌝ }
+{
+    let kw = table.key_words;
+    if -1000000.0 <= e.lo {
+        if e.lo <= 1000000.0 {
+            if -1000000.0 <= e.hi {
+                if e.hi <= 1000000.0 {
+                    return memo::store(
+                        words,
+                        tags,
+                        dict,
+                        n,
+                        generation,
+                        table,
+                        -1000000.0,
+                        1000000.0,
+                        key(at, 0, kw),
+                        key(at, 1, kw),
+                        key(at, 2, kw),
+                        key(at, 3, kw),
+                        e,
+                        nodes,
+                    );
+                }
+            }
+        }
+    }
+    n
+}
+
+// One turn: a get of the key drawn, a store by two more numbers, or a new generation.
+fn turn(
+    words: &mut [u64],
+    tags: &mut [u8],
+    dict: &mut [u64],
+    table: memo::Table,
+    st: State,
+    pool: u64,
+    span: u64,
+) -> State
+    requires { ⌜ Sized table (now words) (now tags) (now dict) (st .n) × (st .generation < 128) × (0 < pool) × (pool ≤ 4096) × (0 < span) × (span ≤ 1000001) ⌝ }
+    ensures { λ r. ⌜ (r .n ≤ 255) × (r .generation < 128) ⌝ }
+{
+    let a = next(st.seed);
+    let b = next(a);
+    let c = next(b);
+    let kind = b % 64;
+    let at = a / 64 % pool;
+    if kind < 24 {
+        return get(
+            words,
+            tags,
+            dict,
+            table,
+            State {
+                seed: c,
+                n: st.n,
+                generation: st.generation,
+                hash: st.hash,
+            },
+            at,
+        );
+    }
+    if kind == 24 {
+        return State {
+            seed: c,
+            n: st.n,
+            generation: st.generation % 127 + 1,
+            hash: st.hash,
+        };
+    }
+    let e = memo::Entry {
+        lo: value(b / 64, span),
+        hi: value(c / 64, span),
+        best: best(a / 0x1_0000_0000),
+    };
+    let n = store_entry(
+        words,
+        tags,
+        dict,
+        table,
+        st.n,
+        st.generation,
+        at,
+        e,
+        c % 0x10000,
+    );
+    State {
+        seed: c,
+        n: n,
+        generation: st.generation,
+        hash: st.hash,
+    }
+}
+
+// So many turns. A compact table gets few bounds at first, and then more than its dictionary holds.
+fn turns(
+    words: &mut [u64],
+    tags: &mut [u8],
+    dict: &mut [u64],
+    table: memo::Table,
+    entries: u64,
+    seed: u64,
+) -> State
+    requires { ⌜ Sized table (now words) (now tags) (now dict) 0 × (entries ≤ 1024) ⌝ }
+    ensures { λ r. ⌜ r .n ≤ 255 ⌝ }
+{
+    let compact = table.compact;
+    let count = 400 + 24 * entries;
+    let pool = 2 * entries + 1;
+    let mut st = State {
+        seed: seed,
+        n: 0,
+        generation: 2,
+        hash: 0xCBF2_9CE4_8422_2325,
+    };
+    let mut i = 0;
+    while i < count {
+        st = turn(
+            words,
+            tags,
+            dict,
+            table,
+            st,
+            pool,
+            span(compact, i * 2 < count),
+        );
+        i += 1;
+    }
+    st
+}
+
+fn span(compact: bool, first: bool) -> u64
+    ensures { λ r. ⌜ (0 < r) × (r ≤ 1000001) ⌝ }
+{
+    if compact {
+        if first {
+            return 9;
+        }
+        return 300;
+    }
+    1000001
+}
+
+fn hashed_words(h: u64, words: &[u64]) -> u64 {
+    let mut sum = h;
+    let mut i = 0;
+    while i < words.len() {
+        sum = hashed(sum, words[i]);
+        i += 1;
+    }
+    sum
+}
+
+fn hashed_tags(h: u64, tags: &[u8]) -> u64 {
+    let mut sum = h;
+    let mut i = 0;
+    while i < tags.len() {
+        sum = words::wrapping_mul64(sum ^ wide(tags[i]), 0x100_0000_01B3);
+        i += 1;
+    }
+    sum
+}
+
+fn wide(x: u8) -> u64 {
+    x as u64
+}
+
+fn print(n: u64, end: &[u8]) {
+    io::print_decimal(1, n);
+    io::write_all(1, end);
+}
+
+// A replay on one table: how many words its dictionary then has, and the hash.
+fn run(
+    words: &mut [u64],
+    tags: &mut [u8],
+    dict: &mut [u64],
+    table: memo::Table,
+    entries: u64,
+    seed: u64,
+) -> State
+    requires { ⌜ Sized table (now words) (now tags) (now dict) 0 × (entries ≤ 1024) ⌝ }
+{
+    memo::clear(words, tags);
+    let st = turns(words, tags, dict, table, entries, seed);
+    let n = st.n;
+    let h = hashed_tags(hashed_words(st.hash, words), tags);
+    State {
+        seed: st.seed,
+        n: n,
+        generation: st.generation,
+        hash: hashed_words(h, &dict[..n]),
+    }
+}
+
+// The line of one table, in memory that is lent.
+fn replay(
+    words: &mut [u64],
+    tags: &mut [u8],
+    dict: &mut [u64],
+    entries: usize,
+    kw: usize,
+    compact: bool,
+    seed: u64,
+)
+    requires { ⌜ (1 ≤ entries) × (entries ≤ 1024) × (2 ≤ kw) × (kw ≤ 4) × (7168 ≤ length (now words)) × (1024 ≤ length (now tags)) × (255 ≤ length (now dict)) ⌝ }
+{
+    let table = memo::new_table(entries, 64 * kw, compact);
+    let total = memo::table_words(table);
+    let rows = memo::rows(table);
+    let st = run(
+        &mut words[..total],
+        &mut tags[..rows],
+        dict,
+        table,
+        entries as u64,
+        seed,
+    );
+    print(entries as u64, b" ");
+    print(kw as u64, b" ");
+    print(number(compact), b" ");
+    print(st.n as u64, b" ");
+    print(st.hash, b"\n");
+}
+
+fn number(b: bool) -> u64 {
+    if b { 1 } else { 0 }
+}
+
+// The entries of table j.
+fn entries_of(j: usize) -> usize
+    ensures { λ r. ⌜ (1 ≤ r) × (r ≤ 1024) ⌝ }
+{
+    match j {
+        0 => 1,
+        1 => 2,
+        2 => 3,
+        3 => 4,
+        4 => 5,
+        5 => 7,
+        6 => 8,
+        7 => 1023,
+        _ => 1024,
+    }
+}
+
+fn main() {
+    let mut words = [0u64; 7168];
+    let mut tags = [0u8; 1024];
+    let mut dict = [0u64; 255];
+    let mut i = 0;
+    while i < 54 {
+        replay(
+            &mut words,
+            &mut tags,
+            &mut dict,
+            entries_of(i / 6),
+            2 + i % 3,
+            i / 3 % 2 == 1,
+            88172645463325252 + i as u64,
+        );
+        i += 1;
+    }
+}
