@@ -1,0 +1,2 @@
+-- Laws of compiling a net. Assumes nothing.
+pub mod Conditions

@@ -1,0 +1,3 @@
+-- What the contracts cite: the limits of a net, its table of cells, and what a function changes of the words. Assumes nothing.
+pub mod Limited
+pub mod Cells
