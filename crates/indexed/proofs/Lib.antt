@@ -2,3 +2,5 @@
 pub mod Conditions
 pub mod Rows
 pub mod Cells
+pub mod Sets
+pub mod Masks
