@@ -4,3 +4,4 @@ pub mod Rows
 pub mod Cells
 pub mod Sets
 pub mod Masks
+pub mod Wakes
