@@ -5,3 +5,4 @@ pub mod Cells
 pub mod Sets
 pub mod Masks
 pub mod Wakes
+pub mod Roles
