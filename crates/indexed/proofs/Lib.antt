@@ -6,3 +6,4 @@ pub mod Sets
 pub mod Masks
 pub mod Wakes
 pub mod Roles
+pub mod Chosen
