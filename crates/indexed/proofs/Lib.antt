@@ -7,3 +7,4 @@ pub mod Masks
 pub mod Wakes
 pub mod Roles
 pub mod Chosen
+pub mod Stages
