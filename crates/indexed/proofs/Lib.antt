@@ -8,3 +8,4 @@ pub mod Wakes
 pub mod Roles
 pub mod Chosen
 pub mod Stages
+pub mod Pays

@@ -2,3 +2,4 @@
 pub mod Limited
 pub mod Cells
 pub mod Sections
+pub mod Pays
