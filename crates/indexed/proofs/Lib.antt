@@ -9,3 +9,4 @@ pub mod Roles
 pub mod Chosen
 pub mod Stages
 pub mod Pays
+pub mod Walk

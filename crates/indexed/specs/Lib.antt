@@ -3,3 +3,4 @@ pub mod Limited
 pub mod Cells
 pub mod Sections
 pub mod Pays
+pub mod Stages
