@@ -1,0 +1,12 @@
+-- Laws of compiling a net. Assumes nothing.
+pub mod Conditions
+pub mod Rows
+pub mod Cells
+pub mod Sets
+pub mod Masks
+pub mod Wakes
+pub mod Roles
+pub mod Chosen
+pub mod Stages
+pub mod Pays
+pub mod Walk
