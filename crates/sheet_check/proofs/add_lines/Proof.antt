@@ -1,15 +1,10 @@
-use borrow.Author.Needs.{needs}
 -- The place stays within the sheet. Assumes nothing.
-use Prim.Native.Nat.{_-_, _≤_, _<_}
+use borrow.Author.Needs.{needs}
+use Prim.Native.Nat.{_≤_}
 use mathlib.Core.Path.{_≡_}
-use native.Mathlib.Omega.{arith}
 use lib.ListN.{length}
 use Rattle.sheet_check.proofs.add_lines.Statement.{statement}
 use Rattle.sheet_check.proofs.add_lines.Tie as tie
-use Rattle.sheet_check.proofs.add_lines.Reads as reads
-use Rattle.sheet_check.proofs.add_lines.Lts as lts
-use Rattle.sheet_check.proofs.add.Reads as add-reads
-use Rattle.sheet_check.proofs.put.Reads as put-reads
 
 abbrev Inv-loop : tie.InvT-loop
 Inv-loop sheet₀ n text times to₀ left₀ sheet to left = (length sheet ≡ length sheet₀) × (to ≤ length sheet)
@@ -17,35 +12,27 @@ Inv-loop sheet₀ n text times to₀ left₀ sheet to left = (length sheet ≡ l
 abbrev μ-loop : tie.MeasureT-loop
 μ-loop sheet₀ n text times to₀ left₀ sheet to left = left
 
--- src/main.rt:84:5
 loop-holds : tie.Need-loop-holds Inv-loop μ-loop
 loop-holds c = search needs
 
--- src/main.rt:85:9
 add-requires : tie.Need-add-requires Inv-loop μ-loop
 add-requires c κs = search needs
 
--- src/main.rt:86:9
 put-requires : tie.Need-put-requires Inv-loop μ-loop
 put-requires c κs = search needs
 
--- src/main.rt:87:9
 sub-left : tie.Need-sub-left Inv-loop μ-loop
 sub-left c = search needs
 
--- src/main.rt:84:5
 loop-less : tie.Need-loop-less Inv-loop μ-loop
 loop-less c = search needs
 
--- src/main.rt:84:5
 loop-again : tie.Need-loop-again Inv-loop μ-loop
 loop-again c = search needs
 
--- src/main.rt:78:1
 same-length : tie.Need-same-length Inv-loop μ-loop
 same-length c = search needs
 
--- src/main.rt:78:1
 returns : tie.Need-returns Inv-loop μ-loop
 returns c = search needs
 
