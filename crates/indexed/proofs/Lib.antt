@@ -10,3 +10,5 @@ pub mod Chosen
 pub mod Stages
 pub mod Pays
 pub mod Walk
+-- what an accepted sheet gives
+pub mod Accepted
