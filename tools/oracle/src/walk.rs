@@ -14,7 +14,7 @@ use pflow::game::{
 };
 
 const SEED: u64 = 20_260;
-/// Random nets, and the most bytes of one's sheet.
+/// Random nets that have a move, and the most bytes of one's sheet.
 const NETS: usize = 70;
 const BYTES: usize = 9_000;
 /// The most moves of a walk, so that a line has at most 127 bytes.
