@@ -8,8 +8,8 @@ use bits::Position;
 use bits::Turn;
 use sheet::Read;
 ghost use mathlib.Core.Path.{_≡_};
-ghost use Prim.Native.Nat.{ℕ, _≤_, _<_};
-ghost use lib.ListN.{length, getD};
+ghost use Prim.Native.Nat.{_≤_, _<_};
+ghost use lib.ListN.{length};
 ghost use Rattle.sheet.specs.Packed.{net-in};
 ghost use Rattle.bits.specs.Compiled.{net-words};
 ghost use Rattle.indexed.specs.Limited.{Limited};
@@ -185,17 +185,6 @@ fn follow(c: &[u64], transitions: u64, first: Position, moves: &[u8]) -> u64
     w.hash
 }
 
-// Zeroes every word.
-fn clear(words: &mut [u64])
-    ensures { λ _. ⌜ ((i : ℕ) → getD (now (words .exit)) i 0 ≡ 0) ⌝ }
-{
-    let mut i = 0;
-    while i < words.len() {
-        words[i] = 0;
-        i += 1;
-    }
-}
-
 // Compiles the net of the first n rows, and walks it.
 fn walk(
     rows: &[u64],
@@ -211,8 +200,8 @@ fn walk(
     if rows.len() < n {
         return 0;
     }
-    clear(c);
-    clear(cells);
+    lists::clear(c);
+    lists::clear(cells);
     indexed::compile_walk(rows, n, transitions as usize, places as usize, c, cells);
     follow(c, transitions, bits::fresh(c, start(rows, n)), moves)
 }

@@ -1,22 +1,8 @@
 -- A net that was read is within the limits of compiling. Assumes nothing.
-use mathlib.Core.Path.{_≡_, sym, ap, subst, _∙_}
-use mathlib.Core.List.{List}
-use Prim.Native.Nat.{ℕ, _≤_}
 use borrow.Author.Needs.{needs}
-use Rattle.rules.specs.Sheet.{read-sheet}
-use Rattle.sheet.specs.declared.Read.{Read}
-use Rattle.sheet.specs.declared.Read.the-variants.{Net as NetRead}
-use Rattle.sheet.specs.Packed.{net-in}
-use Rattle.sheet.specs.Reader.{reading, beyond}
-use Rattle.indexed.specs.Limited.{Limited}
-use Rattle.indexed.proofs.Accepted.{sheet-limited}
+use Rattle.indexed.proofs.Accepted.{read-limited}
 use Rattle.walk_check.proofs.answer.Statement.{statement}
 use Rattle.walk_check.proofs.answer.Tie as tie
-
-net-read : (r : Read) (t p n : ℕ) (before after text : List ℕ) → r ≡ NetRead t p n → reading r after ≡ read-sheet text → beyond r before after → (t ≤ 256) × Limited (net-in t p n after)
-net-read r t p n before after text same e kept =
-    let k = subst (λ (x : Read). beyond x before after) same kept in
-    (k .transitions-most, sheet-limited text (net-in t p n after) (sym e ∙ ap (λ (x : Read). reading x after) same))
 
 read-sheet-requires : tie.Need-read-sheet-requires
 read-sheet-requires c κs = search needs
@@ -26,7 +12,7 @@ enum-known-transitions c = search needs
 
 walk-requires : tie.Need-walk-requires
 walk-requires c κs =
-    let (few, limited) = net-read _ _ _ _ _ _ _ (c .before .before .before .before .before .transitions .given .1) (c .before .before .before .before .before .before .before .read-sheet .ensures .0) (c .before .before .before .before .before .before .before .read-sheet .ensures .1) in
+    let (few, limited) = read-limited _ _ _ _ _ _ _ (c .before .before .before .before .before .transitions .given .1) (c .before .before .before .before .before .before .before .read-sheet .ensures .0) (c .before .before .before .before .before .before .before .read-sheet .ensures .1) in
     (few, limited, search needs, search needs)
 
 show-requires : tie.Need-show-requires
