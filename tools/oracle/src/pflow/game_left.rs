@@ -37,9 +37,14 @@ impl Position {
         [self.0.mk, self.0.en].concat().try_into().unwrap()
     }
 
+    /// The moves, into `out`.
+    pub fn list(&self, g: &Game, out: &mut Vec<usize>) {
+        self.0.moves(g, out)
+    }
+
     pub fn moves(&self, g: &Game) -> Vec<usize> {
         let mut moves = vec![];
-        self.0.moves(g, &mut moves);
+        self.list(g, &mut moves);
         moves
     }
 
@@ -63,6 +68,11 @@ impl Position {
     /// As `BitModel` has it: `u32::MAX` where no 0/1 marking enables `t`.
     pub fn deficit(&self, g: &Game, t: usize) -> u64 {
         g.bits.deficit(t, &self.0.mk) as u64
+    }
+
+    /// Fires `t` with the set; false if it spills.
+    pub fn fire(&mut self, g: &Game, t: usize) -> bool {
+        g.bits.fire_tracked(t, &mut self.0.mk, &mut self.0.en)
     }
 
     pub fn play(&mut self, g: &Game, t: usize) -> Ended {
