@@ -132,45 +132,59 @@ impl<'a> Walk<'a> {
     }
 }
 
-/// The list: the sheets by hand, each with so many moves as its `w` says, and
-/// random ones.
-pub fn make(by_hand: &str) -> Option<String> {
-    let mut r = Random(SEED);
-    let mut list = String::from("# The walks that crate walk_check replays: made by `oracle make-walks`.\n");
-    let (mut nets, mut ends) = (0, [0; 3]);
-    let mut add = |list: &mut String, sheet: &[u8], r: &mut Random, n: usize| {
+/// A list being made, and how many nets, and plays by their end, it has.
+#[derive(Default)]
+struct List {
+    text: String,
+    nets: usize,
+    ends: [usize; 3],
+}
+
+impl List {
+    /// Adds a sheet with a walk of at most `n` moves; how many it has.
+    fn add(&mut self, sheet: &[u8], r: &mut Random, n: usize) -> Option<usize> {
         let net = Net::new(sheet::read(sheet).ok()?);
         let rust = Rust::new(&net);
         let (moves, ended) = Walk::new(&net, &rust).wander(r, n);
-        *list += "s\n";
-        std::str::from_utf8(sheet).ok()?.lines().for_each(|l| *list += &format!("|{l}\n"));
-        *list += &format!("w{moves}\n");
-        nets += 1;
-        ended.iter().for_each(|&e| ends[e as usize] += 1);
+        self.text += "s\n";
+        for line in std::str::from_utf8(sheet).ok()?.lines() {
+            self.text += &format!("|{line}\n");
+        }
+        self.text += &format!("w{moves}\n");
+        self.nets += 1;
+        ended.iter().for_each(|&e| self.ends[e as usize] += 1);
         Some(ended.len())
-    };
+    }
+}
+
+/// The list: the sheets by hand, each with so many moves as its `w` says, and
+/// random ones.
+pub fn make(by_hand: &str) -> Option<String> {
+    let (mut r, mut list) = (Random(SEED), List::default());
+    list.text += "# The walks that crate walk_check replays: made by `oracle make-walks`.\n";
     let mut reader = Reader::default();
     for line in by_hand.lines() {
         match reader.line(line)? {
             Line::Walk(n) => {
-                list += &format!("# {}\n", reader.name);
-                add(&mut list, &reader.sheet, &mut r, n.trim().parse().ok()?)?;
+                list.text += &format!("# {}\n", reader.name);
+                list.add(&reader.sheet, &mut r, n.trim().parse().ok()?)?;
             }
             Line::Quiet => {}
             _ => return None,
         }
     }
-    list += "# random nets\n";
+    list.text += "# random nets\n";
     let mut left = NETS;
     while left > 0 {
         let sheet = random::sheet(&mut r).text();
-        if sheet.len() <= BYTES && add(&mut list, sheet.as_bytes(), &mut r, MOVES)? > 0 {
+        if sheet.len() <= BYTES && list.add(sheet.as_bytes(), &mut r, MOVES)? > 0 {
             left -= 1;
         }
     }
-    let moves: usize = ends.iter().sum();
-    eprintln!("{nets} nets, {moves} moves: {} settled, {} spilled, {} endless", ends[0], ends[1], ends[2]);
-    Some(list)
+    let [settled, spilled, endless] = list.ends;
+    let (nets, moves) = (list.nets, settled + spilled + endless);
+    eprintln!("{nets} nets, {moves} moves: {settled} settled, {spilled} spilled, {endless} endless");
+    Some(list.text)
 }
 
 /// What walk_check must write for a list.
