@@ -18,6 +18,7 @@ oracle net SEED                    a random sheet
 oracle compare SEED NETS           our reading against the Rust on random sheets
 oracle make-list BY-HAND           the fixed list
 oracle check-list FILE [reference|rust]  replays it by our reading, the Rust, or both
+oracle read-list FILE              what our own reader gives of each sheet of a list
 OPTIONS: budget=1000 entries=1024 driver=1 filters=1 chain=012 memo";
 
 fn main() {
@@ -52,6 +53,13 @@ fn start() -> i32 {
                 None => 1,
             },
             Err(_) => usage(),
+        },
+        ["read-list", file] => match std::fs::read_to_string(file).map(|text| list::read(&text)) {
+            Ok(Some(text)) => {
+                print!("{text}");
+                0
+            }
+            _ => usage(),
         },
         ["check-list", file, by @ ..] => match std::fs::read(file) {
             Ok(text) => {
