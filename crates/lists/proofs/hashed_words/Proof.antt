@@ -1,9 +1,9 @@
--- `memo_check::hashed_words` meets its contract. Assumes nothing.
+-- `lists::hashed_words` meets its contract. Assumes nothing.
 use Prim.Native.Nat.{_≤_, _-_}
 use lib.ListN.{length}
 use borrow.Author.Needs.{needs}
-use Rattle.memo_check.proofs.hashed_words.Statement.{statement}
-use Rattle.memo_check.proofs.hashed_words.Tie as tie
+use Rattle.lists.proofs.hashed_words.Statement.{statement}
+use Rattle.lists.proofs.hashed_words.Tie as tie
 
 abbrev Inv-loop : tie.InvT-loop
 Inv-loop h words sum₀ i₀ sum i = i ≤ length words

@@ -3,8 +3,8 @@ use borrow.Author.Needs.{needs}
 use Prim.Native.Nat.{_≤_}
 use mathlib.Core.Path.{_≡_}
 use lib.ListN.{length}
-use Rattle.sheet_check.proofs.add_lines.Statement.{statement}
-use Rattle.sheet_check.proofs.add_lines.Tie as tie
+use Rattle.lists.proofs.add_lines.Statement.{statement}
+use Rattle.lists.proofs.add_lines.Tie as tie
 
 abbrev Inv-loop : tie.InvT-loop
 Inv-loop sheet₀ n text times to₀ left₀ sheet to left = (length sheet ≡ length sheet₀) × (to ≤ length sheet)

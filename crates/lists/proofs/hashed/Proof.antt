@@ -1,8 +1,8 @@
--- `memo_check::hashed` meets its contract. Assumes nothing.
+-- `lists::hashed` meets its contract. Assumes nothing.
 use Prim.Native.Nat.{_≤_, _-_}
 use borrow.Author.Needs.{needs}
-use Rattle.memo_check.proofs.hashed.Statement.{statement}
-use Rattle.memo_check.proofs.hashed.Tie as tie
+use Rattle.lists.proofs.hashed.Statement.{statement}
+use Rattle.lists.proofs.hashed.Tie as tie
 
 abbrev Inv-loop : tie.InvT-loop
 Inv-loop h w sum₀ rest₀ j₀ sum rest j = j ≤ 8

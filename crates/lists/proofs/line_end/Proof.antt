@@ -2,8 +2,8 @@
 use borrow.Author.Needs.{needs}
 use Prim.Native.Nat.{_-_, _≤_}
 use lib.ListN.{length}
-use Rattle.sheet_check.proofs.line_end.Statement.{statement}
-use Rattle.sheet_check.proofs.line_end.Tie as tie
+use Rattle.lists.proofs.line_end.Statement.{statement}
+use Rattle.lists.proofs.line_end.Tie as tie
 
 abbrev Inv-loop : tie.InvT-loop
 Inv-loop list at end₀ end = (at ≤ end) × (end ≤ length list)

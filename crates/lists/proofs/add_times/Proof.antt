@@ -3,8 +3,8 @@ use borrow.Author.Needs.{needs}
 use Prim.Native.Nat.{_-_, _≤_, _<_}
 use mathlib.Core.Path.{_≡_}
 use lib.ListN.{length}
-use Rattle.sheet_check.proofs.add_times.Statement.{statement}
-use Rattle.sheet_check.proofs.add_times.Tie as tie
+use Rattle.lists.proofs.add_times.Statement.{statement}
+use Rattle.lists.proofs.add_times.Tie as tie
 
 abbrev Inv-loop : tie.InvT-loop
 Inv-loop sheet₀ n line times₀ i₀ sheet times i = (length sheet ≡ length sheet₀) × (i ≤ length line) × (times < 100000)

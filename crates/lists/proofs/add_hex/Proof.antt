@@ -1,10 +1,10 @@
 -- The place stays within the sheet. Assumes nothing.
-use borrow.Author.Needs.{needs}
 use Prim.Native.Nat.{_-_, _≤_}
+use borrow.Author.Needs.{needs}
 use mathlib.Core.Path.{_≡_}
 use lib.ListN.{length}
-use Rattle.sheet_check.proofs.add_hex.Statement.{statement}
-use Rattle.sheet_check.proofs.add_hex.Tie as tie
+use Rattle.lists.proofs.add_hex.Statement.{statement}
+use Rattle.lists.proofs.add_hex.Tie as tie
 
 abbrev Inv-loop : tie.InvT-loop
 Inv-loop sheet₀ n text to₀ i₀ sheet to i = (i ≤ length text) × (length sheet ≡ length sheet₀) × (to ≤ length sheet)
@@ -24,26 +24,17 @@ same-length c = search needs
 returns : tie.Need-returns Inv-loop μ-loop
 returns c = search needs
 
-shared-slice-read-digit : tie.Need-shared-slice-read-digit Inv-loop μ-loop
-shared-slice-read-digit c = search needs
+shared-slice-read-byte : tie.Need-shared-slice-read-byte Inv-loop μ-loop
+shared-slice-read-byte c = search needs
 
-digit-requires : tie.Need-digit-requires Inv-loop μ-loop
-digit-requires c κs = search needs
+add-byte : tie.Need-add-byte Inv-loop μ-loop
+add-byte c = search needs
 
-mul-put : tie.Need-mul-put Inv-loop μ-loop
-mul-put c = search needs
+shared-slice-read-byte-2 : tie.Need-shared-slice-read-byte-2 Inv-loop μ-loop
+shared-slice-read-byte-2 c = search needs
 
-add-digit : tie.Need-add-digit Inv-loop μ-loop
-add-digit c = search needs
-
-shared-slice-read-digit-2 : tie.Need-shared-slice-read-digit-2 Inv-loop μ-loop
-shared-slice-read-digit-2 c = search needs
-
-digit-requires-2 : tie.Need-digit-requires-2 Inv-loop μ-loop
-digit-requires-2 c κs = search needs
-
-add-put : tie.Need-add-put Inv-loop μ-loop
-add-put c = search needs
+byte-requires : tie.Need-byte-requires Inv-loop μ-loop
+byte-requires c κs = search needs
 
 put-requires : tie.Need-put-requires Inv-loop μ-loop
 put-requires c κs = search needs
@@ -73,13 +64,10 @@ add-hex-spec =
     sub-if1
     same-length
     returns
-    shared-slice-read-digit
-    digit-requires
-    mul-put
-    add-digit
-    shared-slice-read-digit-2
-    digit-requires-2
-    add-put
+    shared-slice-read-byte
+    add-byte
+    shared-slice-read-byte-2
+    byte-requires
     put-requires
     add-i
     loop-less
