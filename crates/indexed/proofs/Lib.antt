@@ -9,6 +9,8 @@ pub mod Roles
 pub mod Chosen
 pub mod Stages
 pub mod Pays
+pub mod Sums
+pub mod Values
 pub mod Walk
 -- what an accepted sheet gives
 pub mod Accepted

@@ -216,6 +216,41 @@ pub fn check(text: &str, with_reference: bool, with_rust: bool) -> bool {
     failed == 0 && whole
 }
 
+/// What the reader gives of a sheet: the size, the number of rows and a hash of
+/// them, each packed as crates/sheet/specs/Packed.antt says; or the refusal.
+fn reading(text: &[u8]) -> String {
+    match sheet::read(text) {
+        Ok(s) => {
+            let pack = |(kind, [t, p, n, c]): &(usize, [i64; 4])| {
+                *kind as u64
+                    | (*t as u64) << 4
+                    | (*p as u64) << 12
+                    | ((n + 1_000_000) as u64) << 20
+                    | (*c as u64) << 41
+            };
+            let mix = |h: u64, w: u64| (h ^ w).wrapping_mul(0x100_0000_01b3);
+            let h = s.rows.iter().map(pack).fold(0xcbf2_9ce4_8422_2325, mix);
+            format!("net {} {} {} {h:016x}", s.transitions.len(), s.marks.len(), s.rows.len())
+        }
+        Err(f) => format!("refused {} {}", f.number, f.line),
+    }
+}
+
+/// Reads each sheet of a list whose cases are `c` alone, by our own reading.
+pub fn read(text: &str) -> Option<String> {
+    let mut r = Reader::default();
+    let mut out = String::new();
+    for line in text.split_terminator('\n') {
+        if line == "c" {
+            out += &reading(&r.sheet);
+            out.push('\n');
+        } else {
+            r.line(line)?;
+        }
+    }
+    Some(out)
+}
+
 /// The list, from the cases written by hand and a random sample.
 pub fn make(by_hand: &str) -> Option<String> {
     let mut out = String::from("# The fixed list. How it is made and read: README.md.\n");

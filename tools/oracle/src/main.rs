@@ -19,6 +19,7 @@ oracle net SEED                    a random sheet
 oracle compare SEED NETS           our reading against the Rust on random sheets
 oracle make-list BY-HAND           the fixed list
 oracle check-list FILE [reference|rust]  replays it by our reading, the Rust, or both
+oracle read-list FILE              what our own reader gives of each sheet of a list
 oracle make-walks BY-HAND          the list of walks on nets
 oracle walk-list FILE              what the Rust gives on it
 OPTIONS: budget=1000 entries=1024 driver=1 filters=1 chain=012 memo";
@@ -47,6 +48,7 @@ fn start() -> i32 {
             _ => usage(),
         },
         ["make-list", file] => printed(file, list::make),
+        ["read-list", file] => printed(file, list::read),
         ["make-walks", file] => printed(file, walk::make),
         ["walk-list", file] => printed(file, walk::replay),
         ["check-list", file, by @ ..] => match std::fs::read(file) {
