@@ -10,3 +10,5 @@ pub mod Chosen
 pub mod Stages
 pub mod Pays
 pub mod Walk
+pub mod Goals
+pub mod Touch

@@ -4,3 +4,4 @@ pub mod Cells
 pub mod Sections
 pub mod Pays
 pub mod Stages
+pub mod Goals
