@@ -5,3 +5,4 @@ pub mod Sections
 pub mod Pays
 pub mod Stages
 pub mod Goals
+pub mod Aims
