@@ -12,3 +12,4 @@ pub mod Pays
 pub mod Walk
 pub mod Goals
 pub mod Touch
+pub mod Feeders
