@@ -13,3 +13,5 @@ pub mod Walk
 pub mod Goals
 pub mod Touch
 pub mod Feeders
+pub mod Users
+pub mod Fed
