@@ -15,3 +15,4 @@ pub mod Touch
 pub mod Feeders
 pub mod Users
 pub mod Fed
+pub mod Aims
