@@ -9,6 +9,8 @@ pub mod Roles
 pub mod Chosen
 pub mod Stages
 pub mod Pays
+pub mod Sums
+pub mod Values
 pub mod Walk
 pub mod Goals
 pub mod Touch
@@ -16,3 +18,5 @@ pub mod Feeders
 pub mod Users
 pub mod Fed
 pub mod Aims
+-- what an accepted sheet gives
+pub mod Accepted

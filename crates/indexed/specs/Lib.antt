@@ -3,6 +3,7 @@ pub mod Limited
 pub mod Cells
 pub mod Sections
 pub mod Pays
+pub mod Values
 pub mod Stages
 pub mod Goals
 pub mod Aims

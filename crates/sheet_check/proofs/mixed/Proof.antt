@@ -1,14 +1,9 @@
-use borrow.Author.Needs.{needs}
 -- The index stays within the words. Assumes nothing.
-use Prim.Native.Nat.{_-_, _^_, _≤_, _<_}
-use mathlib.Core.Path.{_≡_}
-use native.Mathlib.Omega.{arith}
+use borrow.Author.Needs.{needs}
+use Prim.Native.Nat.{_-_, _≤_}
 use lib.ListN.{length}
 use Rattle.sheet_check.proofs.mixed.Statement.{statement}
 use Rattle.sheet_check.proofs.mixed.Tie as tie
-use Rattle.sheet_check.proofs.mixed.Reads as reads
-use Rattle.sheet_check.proofs.mixed.Lts as lts
-use Rattle.words.proofs.wrapping_mul64.Reads as wrapping-mul64-reads
 
 abbrev Inv-loop : tie.InvT-loop
 Inv-loop rows n h₀ i₀ h i = i ≤ length rows
@@ -16,39 +11,30 @@ Inv-loop rows n h₀ i₀ h i = i ≤ length rows
 abbrev μ-loop : tie.MeasureT-loop
 μ-loop rows n h₀ i₀ h i = length rows - i
 
--- src/main.rt:141:5
 loop-holds : tie.Need-loop-holds Inv-loop μ-loop
 loop-holds c = search needs
 
--- src/main.rt:143:13
 returns : tie.Need-returns Inv-loop μ-loop
 returns c = search needs
 
--- src/main.rt:145:39
 mul-wrapping-mul64 : tie.Need-mul-wrapping-mul64 Inv-loop μ-loop
 mul-wrapping-mul64 c = search needs
 
--- src/main.rt:145:39
 shared-slice-read-wrapping-mul64 : tie.Need-shared-slice-read-wrapping-mul64 Inv-loop μ-loop
 shared-slice-read-wrapping-mul64 c = search needs
 
--- src/main.rt:145:9
 wrapping-mul64-requires : tie.Need-wrapping-mul64-requires Inv-loop μ-loop
 wrapping-mul64-requires c κs = search needs
 
--- src/main.rt:146:9
 add-i : tie.Need-add-i Inv-loop μ-loop
 add-i c = search needs
 
--- src/main.rt:141:5
 loop-less : tie.Need-loop-less Inv-loop μ-loop
 loop-less c = search needs
 
--- src/main.rt:141:5
 loop-again : tie.Need-loop-again Inv-loop μ-loop
 loop-again c = search needs
 
--- src/main.rt:138:1
 returns-2 : tie.Need-returns-2 Inv-loop μ-loop
 returns-2 c = search needs
 

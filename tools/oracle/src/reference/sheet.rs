@@ -41,6 +41,8 @@ pub struct Sheet {
     /// Per place: its `mark` row.
     pub marks: Vec<Option<i64>>,
     pub pays: Vec<(usize, i64)>,
+    /// The rows below `size` in their order: which word, and the four fields.
+    pub rows: Vec<(usize, [i64; 4])>,
 }
 
 #[derive(Debug)]
@@ -170,6 +172,10 @@ pub fn read(sheet: &[u8]) -> Result<Sheet, Fault> {
         }
         if !got.add(word, row) {
             return fault(3, line);
+        }
+        if line > 2 {
+            let kind = FORMS.iter().position(|f| f.0 == word).unwrap();
+            got.rows.push((kind, row));
         }
     }
     if got.transitions.iter().any(|t| t.role.is_none()) {
