@@ -14,8 +14,9 @@ pub mod Values
 pub mod Walk
 pub mod Goals
 pub mod Touch
-pub mod Feeders
 pub mod Users
+pub mod Aiming
+pub mod Feeders
 pub mod Fed
 pub mod Aims
 -- what an accepted sheet gives
