@@ -12,5 +12,12 @@ pub mod Pays
 pub mod Sums
 pub mod Values
 pub mod Walk
+pub mod Goals
+pub mod Touch
+pub mod Users
+pub mod Aiming
+pub mod Feeders
+pub mod Fed
+pub mod Aims
 -- what an accepted sheet gives
 pub mod Accepted

@@ -5,3 +5,5 @@ pub mod Sections
 pub mod Pays
 pub mod Values
 pub mod Stages
+pub mod Goals
+pub mod Aims
