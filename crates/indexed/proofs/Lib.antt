@@ -9,4 +9,6 @@ pub mod Roles
 pub mod Chosen
 pub mod Stages
 pub mod Pays
+pub mod Sums
+pub mod Values
 pub mod Walk

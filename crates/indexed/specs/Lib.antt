@@ -3,4 +3,5 @@ pub mod Limited
 pub mod Cells
 pub mod Sections
 pub mod Pays
+pub mod Values
 pub mod Stages
