@@ -12,3 +12,5 @@ pub mod Pays
 pub mod Sums
 pub mod Values
 pub mod Walk
+-- what an accepted sheet gives
+pub mod Accepted

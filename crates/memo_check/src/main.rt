@@ -20,24 +20,6 @@ fn next(s: u64) -> u64 {
     b ^ (b << 17)
 }
 
-// A hash with the eight bytes of a word.
-fn hashed(h: u64, w: u64) -> u64 {
-    let mut sum = h;
-    let mut rest = w;
-    let mut j: u64 = 0;
-    while j < 8 {
-        sum = words::wrapping_mul64(sum ^ (rest % 256), 0x100_0000_01B3);
-        rest = rest / 256;
-        j += 1;
-    }
-    sum
-}
-
-// The bits of a bound.
-fn bits(v: f64) -> u64 {
-    if v <= v { f64::to_bits(v) } else { 0 }
-}
-
 // A whole number of size below span, by a number of the sequence.
 fn value(r: u64, span: u64) -> f64
     requires { ⌜ (0 < span) × (span ≤ 1000001) ⌝ }
@@ -59,8 +41,14 @@ fn key(at: u64, j: u64, kw: usize) -> u64
 
 fn hashed_got(h: u64, g: memo::Got) -> u64 {
     match g {
-        memo::Got::Hit(e) => hashed(hashed(hashed(h, bits(e.lo)), bits(e.hi)), e.best),
-        memo::Got::Miss => hashed(h, 7),
+        memo::Got::Hit(e) => lists::hashed(
+            lists::hashed(
+                lists::hashed(h, lists::float_bits(e.lo)),
+                lists::float_bits(e.hi),
+            ),
+            e.best,
+        ),
+        memo::Got::Miss => lists::hashed(h, 7),
     }
 }
 
@@ -260,16 +248,6 @@ fn span(compact: bool, first: bool) -> u64
     1000001
 }
 
-fn hashed_words(h: u64, words: &[u64]) -> u64 {
-    let mut sum = h;
-    let mut i = 0;
-    while i < words.len() {
-        sum = hashed(sum, words[i]);
-        i += 1;
-    }
-    sum
-}
-
 fn hashed_tags(h: u64, tags: &[u8]) -> u64 {
     let mut sum = h;
     let mut i = 0;
@@ -303,12 +281,12 @@ fn run(
     memo::clear(words, tags);
     let st = turns(words, tags, dict, table, entries, seed);
     let n = st.n;
-    let h = hashed_tags(hashed_words(st.hash, words), tags);
+    let h = hashed_tags(lists::hashed_words(st.hash, words), tags);
     State {
         seed: st.seed,
         n: n,
         generation: st.generation,
-        hash: hashed_words(h, &dict[..n]),
+        hash: lists::hashed_words(h, &dict[..n]),
     }
 }
 

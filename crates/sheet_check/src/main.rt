@@ -6,131 +6,6 @@ use sheet::Read;
 ghost use Prim.Native.Nat.{_≤_, _<_};
 ghost use lib.ListN.{length};
 
-// The end of the line that starts at `at`.
-fn line_end(list: &[u8], at: usize) -> usize
-    requires { ⌜ at ≤ length (now list) ⌝ }
-    ensures { λ r. ⌜ (at ≤ r) × (r ≤ length (now (list .entry))) ⌝ }
-{
-    let mut end = at;
-    while end < list.len() {
-        if list[end] == b'\n' {
-            return end;
-        }
-        end += 1;
-    }
-    end
-}
-
-// Puts a byte at n, where there is room; the next place.
-fn put(sheet: &mut [u8], n: usize, b: u8) -> usize
-    requires { ⌜ n ≤ length (now sheet) ⌝ }
-    ensures { λ r. ⌜ r ≤ length (now (sheet .entry)) ⌝ }
-{
-    if n < sheet.len() {
-        sheet[n] = b;
-        return n + 1;
-    }
-    n
-}
-
-// Puts a text from n on; the next place.
-fn add(sheet: &mut [u8], n: usize, text: &[u8]) -> usize
-    requires { ⌜ n ≤ length (now sheet) ⌝ }
-    ensures { λ r. ⌜ r ≤ length (now (sheet .entry)) ⌝ }
-{
-    let mut to = n;
-    let mut i = 0;
-    while i < text.len() {
-        to = put(sheet, to, text[i]);
-        i += 1;
-    }
-    to
-}
-
-// The value of a hexadecimal digit.
-fn digit(b: u8) -> u8
-    ensures { λ r. ⌜ r ≤ 15 ⌝ }
-{
-    if b < 58 {
-        return b % 16;
-    }
-    (b % 16 + 9) % 16
-}
-
-// Puts the bytes of a text in hexadecimal from n on; the next place.
-fn add_hex(sheet: &mut [u8], n: usize, text: &[u8]) -> usize
-    requires { ⌜ n ≤ length (now sheet) ⌝ }
-    ensures { λ r. ⌜ r ≤ length (now (sheet .entry)) ⌝ }
-{
-    let mut to = n;
-    let mut i = 0;
-    while i < text.len() {
-        if text.len() - i < 2 {
-            return to;
-        }
-        to = put(sheet, to, digit(text[i]) * 16 + digit(text[i + 1]));
-        i += 2;
-    }
-    to
-}
-
-// Puts a text and byte 10 from n on, a number of times; the next place.
-fn add_lines(sheet: &mut [u8], n: usize, text: &[u8], times: u64) -> usize
-    requires { ⌜ n ≤ length (now sheet) ⌝ }
-    ensures { λ r. ⌜ r ≤ length (now (sheet .entry)) ⌝ }
-{
-    let mut to = n;
-    let mut left = times;
-    while 0 < left {
-        to = add(sheet, to, text);
-        to = put(sheet, to, b'\n');
-        left -= 1;
-    }
-    to
-}
-
-// `N text`: puts the text and byte 10 N times, N below 100,000.
-fn add_times(sheet: &mut [u8], n: usize, line: &[u8]) -> usize
-    requires { ⌜ n ≤ length (now sheet) ⌝ }
-    ensures { λ r. ⌜ r ≤ length (now (sheet .entry)) ⌝ }
-{
-    let mut times: u64 = 0;
-    let mut i = 0;
-    while i < line.len() {
-        if line[i] == b' ' {
-            return add_lines(sheet, n, &line[i + 1..], times);
-        }
-        times = (times * 10 + (line[i] % 16) as u64) % 100_000;
-        i += 1;
-    }
-    n
-}
-
-// A line of the list that builds a sheet of n bytes; how many bytes it has then.
-fn build(sheet: &mut [u8], n: usize, line: &[u8]) -> usize
-    requires { ⌜ (n ≤ length (now sheet)) × (0 < length (now line)) ⌝ }
-    ensures { λ r. ⌜ r ≤ length (now (sheet .entry)) ⌝ }
-{
-    let first = line[0];
-    if first == b's' {
-        return 0;
-    }
-    if first == b'|' {
-        let to = add(sheet, n, &line[1..]);
-        return put(sheet, to, b'\n');
-    }
-    if first == b'!' {
-        return add(sheet, n, &line[1..]);
-    }
-    if first == b'x' {
-        return add_hex(sheet, n, &line[1..]);
-    }
-    if first == b'*' {
-        return add_times(sheet, n, &line[1..]);
-    }
-    n
-}
-
 // FNV-1a over the first n words.
 fn mixed(rows: &[u64], n: usize) -> u64 {
     let mut h: u64 = 14695981039346656037;
@@ -196,7 +71,7 @@ fn step(sheet: &mut [u8], n: usize, line: &[u8], rows: &mut [u64; 6560]) -> usiz
         answer(&sheet[..n], rows);
         return n;
     }
-    build(sheet, n, line)
+    lists::build(sheet, n, line)
 }
 
 // Goes through the list, line by line.
@@ -204,7 +79,7 @@ fn run(list: &[u8], sheet: &mut [u8], rows: &mut [u64; 6560]) {
     let mut n = 0;
     let mut at = 0;
     while at < list.len() {
-        let end = line_end(list, at);
+        let end = lists::line_end(list, at);
         n = step(sheet, n, &list[at..end], rows);
         at = end + 1;
     }

@@ -1,4 +1,4 @@
--- What a line that is read holds: its form is one of the table's, and the transition is 0 where `-` stands for it.
+-- What a line that is read holds: its form is one of the table's, and its transition, its place and its number are 0 where `-` stands for them.
 -- Assumes nothing.
 use mathlib.Core.Path.{_≡_, refl, _∙_}
 use mathlib.Core.Bool.{Bool, true, false, true≢false, cond}
@@ -16,6 +16,8 @@ use Rattle.rules.specs.Sheet.{Field, dash, Form, forms, form-of, Fields, bind, 
 pub record Shaped (l : Fields) : Type 0 where
   pub form-in : l .of ∈ forms
   pub no-at : l .of .at-field ≡ dash → l .at ≡ pos 0
+  pub no-place : l .of .place-field ≡ dash → l .place ≡ pos 0
+  pub no-n : l .of .n-field ≡ dash → l .n ≡ pos 0
 
 form-of-in : (w : List ℕ) (l : List Form) (f : Form) → form-of w l ≡ some f → f ∈ l
 unfolding form-of
@@ -45,10 +47,15 @@ fields-shaped w a p m c l e =
     let (y, ey, e3) = bind-some (read-field (f .place-field) p) _ l e2 in
     let (z, ez, e4) = bind-some (read-field (f .n-field) m) _ l e3 in
     let (b, eb, e5) = bind-some (read-field (f .cap-field) c) _ l e4 in
-    go f x y z b ef ex (cc)
+    go f x y z b ef ex ey ez (cc)
   where
-    go : (f : Form) (x y z b : ℤ) → form-of w forms ≡ some f → read-field (f .at-field) a ≡ some x → l ≡ record { of = f; at = x; place = y; n = z; bound = b } → Shaped l
-    go f x y z b ef ex same = rw same (record { form-in = form-of-in w forms f ef; no-at = λ d. dash-zero (f .at-field) a x d ex })
+    go : (f : Form) (x y z b : ℤ) → form-of w forms ≡ some f → read-field (f .at-field) a ≡ some x → read-field (f .place-field) p ≡ some y → read-field (f .n-field) m ≡ some z → l ≡ record { of = f; at = x; place = y; n = z; bound = b } → Shaped l
+    go f x y z b ef ex ey ez same = rw same (record {
+      form-in = form-of-in w forms f ef;
+      no-at = λ d. dash-zero (f .at-field) a x d ex;
+      no-place = λ d. dash-zero (f .place-field) p y d ey;
+      no-n = λ d. dash-zero (f .n-field) m z d ez;
+    })
 
 pub line-shaped : (text : List ℕ) (l : Fields) → read-line text ≡ some l → Shaped l
 unfolding read-line

@@ -40,6 +40,8 @@ module _ (net : Net) (x y z b : ℤ) where
     n-fits : in-field net (f .n-field) z ≡ true
     bound-fits : in-field net (f .cap-field) b ≡ true
     at-dash : f .at-field ≡ dash → x ≡ pos 0
+    place-dash : f .place-field ≡ dash → y ≡ pos 0
+    n-dash : f .n-field ≡ dash → z ≡ pos 0
 
   abbrev Limits : Form → Type 0
   Limits f = (eqb (code (f .kind)) (code size) ≡ false) → InFields f → KindLimits (net .transitions) (net .places) (f .kind) (natAbs x) (natAbs y) z b
@@ -49,13 +51,13 @@ module _ (net : Net) (x y z b : ℤ) where
   each-limits = (
     (λ n h. absurd (true≢false n)),
     (
-      (λ n h. (index (net .places) y (h .place-fits), between (pos 0) (pos 1) z (h .n-fits))),
+      (λ n h. (ap natAbs (h .at-dash refl), index (net .places) y (h .place-fits), between (pos 0) (pos 1) z (h .n-fits))),
       (
         (λ n h. (ap natAbs (h .at-dash refl), index (net .places) y (h .place-fits), between _ _ z (h .n-fits))),
         (
-          (λ n h. (index (net .transitions) x (h .at-fits), between _ _ z (h .n-fits))),
+          (λ n h. (index (net .transitions) x (h .at-fits), ap natAbs (h .place-dash refl), between _ _ z (h .n-fits))),
           (
-            (λ n h. (index (net .transitions) x (h .at-fits), between _ _ z (h .n-fits))),
+            (λ n h. (index (net .transitions) x (h .at-fits), ap natAbs (h .place-dash refl), between _ _ z (h .n-fits))),
             (
               arc,
               (
@@ -66,7 +68,7 @@ module _ (net : Net) (x y z b : ℤ) where
                     arc,
                     (
                       (λ n h. (index (net .transitions) x (h .at-fits), index (net .places) y (h .place-fits), between _ _ z (h .n-fits), between _ _ b (h .bound-fits))),
-                      ((λ n h. index (net .transitions) x (h .at-fits)), tt),
+                      ((λ n h. (index (net .transitions) x (h .at-fits), ap natAbs (h .place-dash refl), h .n-dash refl)), tt),
                     ),
                   ),
                 ),
@@ -98,7 +100,7 @@ line-fields net l s e =
     let (abc, d) = and-true _ (in-field net (l .of .cap-field) (l .bound)) e in
     let (ab, c) = and-true _ (in-field net (l .of .n-field) (l .n)) abc in
     let (a, b) = and-true (in-field net (l .of .at-field) (l .at)) (in-field net (l .of .place-field) (l .place)) ab in
-    record { at-fits = a; place-fits = b; n-fits = c; bound-fits = d; at-dash = s .no-at }
+    record { at-fits = a; place-fits = b; n-fits = c; bound-fits = d; at-dash = s .no-at; place-dash = s .no-place; n-dash = s .no-n }
 
 pub sizes-within : (net : Net) (l : Fields) → Shaped l → in-range net l ≡ true → is size (row-of l) ≡ true → Between (pos 1) (pos max-size) (l .at) × Between (pos 1) (pos max-size) (l .place)
 sizes-within net l s e n =

@@ -292,9 +292,25 @@ pub fn dropped(down: usize) -> Draft {
     d
 }
 
+/// Tokens on a circle of `n` places, every fourth at the start: transition t
+/// moves the one on place t on, if the next place is free.
+pub fn ring(n: usize) -> Draft {
+    let mut d = Draft::default();
+    let at: Vec<usize> = (0..n).map(|p| d.place(p % 4 == 0)).collect();
+    d.pay(n - 1, 1);
+    d.pay(0, -1);
+    for p in 0..n {
+        let next = at[(p + 1) % n];
+        let t = d.turn(1, &[at[p]], &[next]);
+        d.arc(Arc::Stop, t, next);
+        d.arc(Arc::Read, t, at[p]);
+    }
+    d
+}
+
 /// The games by name: "row 3 3 3", "drop 4 4 3", "hex 3", "domineering 4 4",
 /// "nim 1 2 3", "counter 14 9999 0", "line 64 1", "detour 65", "dropped 64",
-/// "wide 64 0".
+/// "wide 64 0", "ring 256".
 pub fn named(words: &[&str]) -> Option<Draft> {
     let n: Vec<i64> = words[1..].iter().map(|w| w.parse().ok()).collect::<Option<_>>()?;
     let u: Vec<usize> = n.iter().map(|&x| x as usize).collect();
@@ -308,6 +324,7 @@ pub fn named(words: &[&str]) -> Option<Draft> {
         ("line", &[moves, _]) => line(moves, n[1]),
         ("detour", &[moves]) => detour(moves),
         ("dropped", &[down]) => dropped(down),
+        ("ring", &[n]) => ring(n),
         ("wide", &[n, later]) => wide(n, later == 1),
         _ => return None,
     })

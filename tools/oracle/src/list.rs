@@ -14,7 +14,7 @@ const SHEET: usize = 65_537;
 
 /// One case, as a `c` line gives it.
 #[derive(Clone)]
-struct Case {
+pub struct Case {
     settings: Settings,
     words: usize,
     tags: usize,
@@ -27,7 +27,7 @@ fn fill(case: &Case) -> (Vec<u64>, Vec<u8>) {
 }
 
 /// FNV-1a, 64 bits.
-fn fnv(bytes: impl Iterator<Item = u8>) -> u64 {
+pub fn fnv(bytes: impl Iterator<Item = u8>) -> u64 {
     bytes.fold(0xcbf2_9ce4_8422_2325, |h, b| (h ^ b as u64).wrapping_mul(0x100_0000_01b3))
 }
 
@@ -75,22 +75,24 @@ fn by_rust(sheet: &[u8], case: &Case, expected: &str) -> Option<String> {
 
 /// A list, or the cases written by hand, as sheets with their cases.
 #[derive(Default)]
-struct Reader {
-    sheet: Vec<u8>,
+pub struct Reader {
+    pub sheet: Vec<u8>,
     sheets: usize,
-    name: String,
+    pub name: String,
 }
 
-enum Line<'a> {
+pub enum Line<'a> {
     /// Nothing to do for it.
     Quiet,
     /// A case, with the rest of its line.
     Case(Case, &'a str),
+    /// A walk (src/walk.rs), with the rest of its line.
+    Walk(&'a str),
     End(&'a str),
 }
 
 impl Reader {
-    fn line<'a>(&mut self, text: &'a str) -> Option<Line<'a>> {
+    pub fn line<'a>(&mut self, text: &'a str) -> Option<Line<'a>> {
         let Some(first) = text.chars().next() else {
             return Some(Line::Quiet);
         };
@@ -141,6 +143,7 @@ impl Reader {
                 let case = Case { settings, words: length(6, WORDS)?, tags: length(7, TAGS)? };
                 return Some(Line::Case(case, f.get(8)?));
             }
+            'w' => return Some(Line::Walk(rest)),
             'e' => return Some(Line::End(rest)),
             _ => return None,
         }
@@ -191,6 +194,10 @@ pub fn check(text: &str, with_reference: bool, with_rust: bool) -> bool {
                         println!("line {} ({}): list {expected}, now {other}", i + 1, r.name);
                     }
                 }
+            }
+            Line::Walk(_) => {
+                println!("line {}: not of the list's form", i + 1);
+                return false;
             }
             Line::End(rest) => {
                 let sum = fnv(text.bytes().take(at));
@@ -270,7 +277,7 @@ pub fn make(by_hand: &str) -> Option<String> {
                     return None;
                 }
             }
-            Line::End(_) => return None,
+            Line::Walk(_) | Line::End(_) => return None,
         }
     }
     let mut sheets = r.sheets;

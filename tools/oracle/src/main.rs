@@ -6,6 +6,7 @@ mod list;
 mod random;
 mod reference;
 mod rust;
+mod walk;
 
 use reference::{net::Net, Answer, Settings};
 use std::io::Read;
@@ -19,6 +20,8 @@ oracle compare SEED NETS           our reading against the Rust on random sheets
 oracle make-list BY-HAND           the fixed list
 oracle check-list FILE [reference|rust]  replays it by our reading, the Rust, or both
 oracle read-list FILE              what our own reader gives of each sheet of a list
+oracle make-walks BY-HAND          the list of walks on nets
+oracle walk-list FILE              what the Rust gives on it
 OPTIONS: budget=1000 entries=1024 driver=1 filters=1 chain=012 memo";
 
 fn main() {
@@ -44,23 +47,10 @@ fn start() -> i32 {
             (Ok(seed), Ok(nets)) => !compare::run(seed, nets) as i32,
             _ => usage(),
         },
-        ["make-list", file] => match std::fs::read_to_string(file) {
-            Ok(text) => match list::make(&text) {
-                Some(list) => {
-                    print!("{list}");
-                    0
-                }
-                None => 1,
-            },
-            Err(_) => usage(),
-        },
-        ["read-list", file] => match std::fs::read_to_string(file).map(|text| list::read(&text)) {
-            Ok(Some(text)) => {
-                print!("{text}");
-                0
-            }
-            _ => usage(),
-        },
+        ["make-list", file] => printed(file, list::make),
+        ["read-list", file] => printed(file, list::read),
+        ["make-walks", file] => printed(file, walk::make),
+        ["walk-list", file] => printed(file, walk::replay),
         ["check-list", file, by @ ..] => match std::fs::read(file) {
             Ok(text) => {
                 let text = String::from_utf8_lossy(&text);
@@ -76,6 +66,18 @@ fn start() -> i32 {
             None => usage(),
         },
         _ => usage(),
+    }
+}
+
+/// Prints what is made of a file.
+fn printed(file: &str, make: impl Fn(&str) -> Option<String>) -> i32 {
+    let Ok(text) = std::fs::read_to_string(file) else { return usage() };
+    match make(&text) {
+        Some(made) => {
+            print!("{made}");
+            0
+        }
+        None => 1,
     }
 }
 

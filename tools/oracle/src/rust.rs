@@ -89,6 +89,11 @@ impl Rust {
         }
     }
 
+    /// The game and its start.
+    pub fn position(&self) -> (&Game, &[i64]) {
+        (&self.game, &self.start)
+    }
+
     /// `Solver::choose` on a new solver.
     pub fn choose(&self, s: &Settings) -> Outcome {
         match quietly(|| self.on(&self.without_counts, s)) {

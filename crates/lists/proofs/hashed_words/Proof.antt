@@ -1,0 +1,51 @@
+-- `lists::hashed_words` meets its contract. Assumes nothing.
+use Prim.Native.Nat.{_≤_, _-_}
+use lib.ListN.{length}
+use borrow.Author.Needs.{needs}
+use Rattle.lists.proofs.hashed_words.Statement.{statement}
+use Rattle.lists.proofs.hashed_words.Tie as tie
+
+abbrev Inv-loop : tie.InvT-loop
+Inv-loop h words sum₀ i₀ sum i = i ≤ length words
+
+abbrev μ-loop : tie.MeasureT-loop
+μ-loop h words sum₀ i₀ sum i = length words - i
+
+loop-holds : tie.Need-loop-holds Inv-loop μ-loop
+loop-holds c = search needs
+
+mul-hashed : tie.Need-mul-hashed Inv-loop μ-loop
+mul-hashed c = search needs
+
+shared-slice-read-hashed : tie.Need-shared-slice-read-hashed Inv-loop μ-loop
+shared-slice-read-hashed c = search needs
+
+hashed-requires : tie.Need-hashed-requires Inv-loop μ-loop
+hashed-requires c κs = search needs
+
+add-i : tie.Need-add-i Inv-loop μ-loop
+add-i c = search needs
+
+loop-less : tie.Need-loop-less Inv-loop μ-loop
+loop-less c = search needs
+
+loop-again : tie.Need-loop-again Inv-loop μ-loop
+loop-again c = search needs
+
+returns : tie.Need-returns Inv-loop μ-loop
+returns c = search needs
+
+pub hashed-words-spec : {M : Type 1} → statement M
+hashed-words-spec =
+    tie.close
+    (tie.spec
+    Inv-loop
+    μ-loop
+    loop-holds
+    mul-hashed
+    shared-slice-read-hashed
+    hashed-requires
+    add-i
+    loop-less
+    loop-again
+    returns)

@@ -1,0 +1,8 @@
+//! Links the crate walk_bench, which `run` has rt staticlib prove and build.
+
+fn main() {
+    let root = std::path::Path::new(env!("CARGO_MANIFEST_DIR")).join("../../target/staticlib");
+    println!("cargo:rustc-link-search=native={}", root.display());
+    println!("cargo:rustc-link-lib=static=walk_bench");
+    println!("cargo:rerun-if-changed={}", root.join("libwalk_bench.a").display());
+}
