@@ -22,7 +22,8 @@ use Rattle.rules.specs.Call.{Request, Result, memo-words, memo-tags, settings-o
 use Rattle.theory.specs.Conditions.{Condition, mixed, move-spills, auto-spills, endless, wide, deep}
 use Rattle.theory.proofs.Inputs.{First, settings, no-goals, memory, unsettled-start}
 use Rattle.theory.proofs.Refusals.{unread-early, Because, by-sheet, by-input, by-state, Went, unread-sheet, bad-input, was-accepted, went, call-unread, call-input, call-searched, refused-because, because-refused}
-use Rattle.theory.proofs.Demand3.{Means, answer-means}
+use Rattle.theory.specs.Promise.{Means}
+use Rattle.theory.proofs.Demand3.{answer-means}
 
 -- the numbers of the conditions
 

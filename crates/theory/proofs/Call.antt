@@ -11,17 +11,18 @@ use Rattle.rules.specs.Minimax.{Worth}
 use Rattle.rules.specs.Search.{Outcome, value, spent, refused, Memory, Settings, State}
 use Rattle.rules.specs.Drivers.{Driver}
 use Rattle.rules.specs.Choose.{Choice, no-move, no-child, key}
+use Rattle.theory.specs.Promise.{Leads, IsKey}
 use Rattle.theory.specs.Counted.{choose-counted}
 use Rattle.theory.specs.Forces.{Exact}
 use Rattle.theory.specs.Causes.{Cause}
 use Rattle.theory.specs.Regular.{Turn, Regular}
-use Rattle.theory.proofs.Forces.{Leads, exact-unique}
+use Rattle.theory.proofs.Forces.{exact-unique}
 use Rattle.theory.proofs.Minimax.{worth-exact, minimax-worth, minimax-some}
 use Rattle.theory.proofs.Answer.{Sound, Gives}
 use Rattle.theory.proofs.Budget.{Within, same, short}
 use Rattle.theory.proofs.Causes.{choose-counted-blamed}
 use Rattle.theory.proofs.Regular.{Valued, valued, regular-uncaused}
-use Rattle.theory.proofs.Choose.{IsKey, Chosen, choose-counted-sound}
+use Rattle.theory.proofs.Choose.{Chosen, choose-counted-sound}
 use Rattle.theory.proofs.Runs.{choose-counted-budgeted}
 use Rattle.theory.proofs.Laws.{Tabled, Lawful, Driven}
 

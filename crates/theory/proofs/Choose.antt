@@ -12,10 +12,11 @@ use Rattle.rules.specs.Minimax.{pick}
 use Rattle.rules.specs.Search.{Entry, Memory, Settings, State, Run, alpha-beta}
 use Rattle.rules.specs.Drivers.{Driver, run}
 use Rattle.rules.specs.Choose.{Choice, no-move, no-child, key, child-run, matched, check-played, check, if-in, known-move, remembered, root, chosen}
+use Rattle.theory.specs.Promise.{Leads, IsKey}
 use Rattle.theory.specs.Counted.{choose-counted}
 use Rattle.theory.specs.Forces.{final, Exact}
 use Rattle.theory.proofs.Order.{le-refl, le-antisym, pick-elim}
-use Rattle.theory.proofs.Forces.{Leads, BestOf, best-one, best-more, best-exact, exact-unique, not-final}
+use Rattle.theory.proofs.Forces.{BestOf, best-one, best-more, best-exact, exact-unique, not-final}
 use Rattle.theory.proofs.Answer.{Sound, Fine, fine-map, fine-then}
 use Rattle.theory.proofs.Tests.{and-true, contains-in}
 use Rattle.theory.proofs.Sound.{alpha-beta-sound}
@@ -31,15 +32,10 @@ module _ (G : Game) where
 
   -- What is chosen: where there is no move nothing, and else a move to a child of the root's value. That no child has it never occurs.
 
-  pub record IsKey (p : Pos) (t : ℕ) (v : Value) : Type 0 where
-    pub is-move : t ∈ moves p
-    pub root-exact : Exact G v p
-    pub child-leads : Leads G p t v
-
   abbrev pub Chosen : Pos → Choice Value → Type 0
   Chosen p no-move = moves p ≡ []
   Chosen p no-child = ⊥
-  Chosen p (key t v) = IsKey p t v
+  Chosen p (key t v) = IsKey G p t v
 
 module _ (G : Game) (R : Rules G) where
   open Game G using (Value, Pos, moves, mover)

@@ -21,13 +21,14 @@ use Rattle.rules.specs.Minimax.{Worth, pick, both, value-after, best, level, mi
 use Rattle.rules.specs.Premises.{Premises}
 use Rattle.rules.specs.NetGame.{int-game, levels}
 use Rattle.rules.specs.Rewards.{entered, with-reward, subset-sums, values}
-use Rattle.rules.specs.Call.{Request, settings-fit, goals-missing, memory-fits, unsettled, input-refusal, Accepted}
+use Rattle.rules.specs.Call.{Request, settings-fit, goals-missing, memory-fits, unsettled, input-refusal, Accepted, call}
 use Rattle.rules.specs.Cases.{first-sheet, two-plies}
 use Rattle.theory.proofs.Fits.{fits, fits-premises}
 use Rattle.theory.proofs.Minimax.{played-worth, worth-unique, minimax-worth}
 use Rattle.theory.proofs.Inputs.{none-accepted}
 use Rattle.theory.proofs.NetRules.{net-rules}
-use Rattle.theory.proofs.Demand3.{MinimaxAnswer, Demand3, demand-3}
+use Rattle.theory.specs.Promise.{MinimaxAnswer, Demand3}
+use Rattle.theory.proofs.Demand3.{demand-3}
 
 -- What is claimed of a net.
 pub record Solved (net : Net) : Type 0 where
@@ -97,7 +98,7 @@ pub two-plies-known : Known two-plies
 two-plies-known = known two-plies (computed .1)
 
 -- Demand 3 for every accepted call on them, whatever its settings: the value is 1.
-pub known-demand-3 : {sheet : List ℕ} → Known sheet → (r : Request) (net : Net) → r .sheet ≡ sheet → Accepted r net → Demand3 r net × ((a : MinimaxAnswer r net) → a .number ≡ pos 1)
+pub known-demand-3 : {sheet : List ℕ} → Known sheet → (r : Request) (net : Net) → r .sheet ≡ sheet → Accepted r net → Demand3 r net (call r .answer) × ((a : MinimaxAnswer r net (call r .answer)) → a .number ≡ pos 1)
 known-demand-3 k r net e A =
     let s = k .solved net (rw e at (A .readable)) in
     (demand-3 A (s .premises) (λ none-there. List·Memᴰ·not-nil (rw none-there at (s .key))), λ a. worth-unique (int-game net) (net-rules net) (a .start-worth) (s .start-worth))

@@ -1,0 +1,2 @@
+-- Laws of drivers and of choosing. Assumes nothing.
+pub mod Picking
