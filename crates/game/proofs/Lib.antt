@@ -1,2 +1,3 @@
 -- Laws of drivers and of choosing. Assumes nothing.
+pub mod Runs
 pub mod Picking
