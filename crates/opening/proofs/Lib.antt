@@ -2,4 +2,5 @@
 pub mod Chains
 pub mod Tokens
 pub mod Measures
+pub mod Bounds
 pub mod Refusals
