@@ -1,3 +1,4 @@
--- Laws of drivers and of choosing. Assumes nothing.
+-- Laws of drivers, of choosing and of the call. Assumes nothing.
 pub mod Runs
 pub mod Picking
+pub mod Calling

@@ -1,3 +1,4 @@
 -- What the contracts cite. Assumes nothing.
 pub mod Runs
 pub mod Picking
+pub mod Calling
