@@ -1,6 +1,6 @@
 -- The whole part of an f64 at and beyond the ends of the range, and of a NaN. Assumes nothing.
 use mathlib.Core.Path.{_≡_, refl, sym, ap, _∙_}
-use mathlib.Core.Bool.{Bool, true, false, true≢false, _||_, _&&_, Bool·beq}
+use mathlib.Core.Bool.{Bool, true, false, true≢false, not, _||_, _&&_, Bool·beq}
 use mathlib.Core.Option.{some}
 use mathlib.Core.List.{_∷_}
 use Prim.Native.Nat.{ℕ, suc, _+_, _-_, _*_, _/_, _^_, min, _≤_, _<_}
@@ -13,7 +13,7 @@ use lib.Signed.{ltZ, nonNeg}
 use mir.Syntax.{w64}
 use mir.Val.{SFits, toZ, ofZ}
 use mir.Facts.{toZ-ofZ}
-use lib.Ieee.{Float, nan, inf, fin, up, down, lt, le, eq, toSigned}
+use lib.Ieee.{Float, nan, inf, fin, up, down, lt, le, eq, isNan, toSigned}
 use lib.Ieee.Fits.{down-pos}
 use lib.Ieee.Casts.{toSigned-in}
 use Rattle.rules.specs.Answer.{shown}
@@ -55,12 +55,19 @@ same : (s : Bool) → Bool·beq s s ≡ true
 same true = refl
 same false = refl
 
+-- every number is at most itself
+pub le-self : (v : Float) → T (not (isNan v)) → le v v ≡ true
+unfolding lt le eq isNan
+le-self nan h = absurd h
+le-self (inf true) h = refl
+le-self (inf false) h = refl
+le-self (fin s m e) h = or-right (lt (fin s m e) (fin s m e)) _ (and-both _ _ (eq-eqb (m * up e * down e) _ refl) (or-left (Bool·beq s s) (eqb (m * up e * down e) 0) (same s)))
+
 pub part-nan : (v : Float) → le v v ≡ false → toSigned 63 v ≡ pos 0
-unfolding lt le eq toSigned
+unfolding isNan toSigned
 part-nan nan q = refl
-part-nan (inf true) q = absurd (true≢false q)
-part-nan (inf false) q = absurd (true≢false q)
-part-nan (fin s m e) q = absurd (true≢false (sym (or-right (lt (fin s m e) (fin s m e)) _ (and-both _ _ (eq-eqb (m * up e * down e) _ refl) (or-left (Bool·beq s s) (eqb (m * up e * down e) 0) (same s)))) ∙ q))
+part-nan (inf s) q = absurd (true≢false (sym (le-self (inf s) tt) ∙ q))
+part-nan (fin s m e) q = absurd (true≢false (sym (le-self (fin s m e) tt) ∙ q))
 
 -- The size of an integer z that 64 bits hold: of a negative one it is -1 - z and one more.
 
