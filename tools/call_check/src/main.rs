@@ -83,7 +83,10 @@ impl Seen {
             let shape = Shape::new(s.entries as usize, net.places, !net.values.is_empty());
             for budget in budgets(r, &net, &s) {
                 let s = Settings { budget, ..s.clone() };
-                let lent = |r: &mut Random, need: usize| (need + r.below(5)).saturating_sub(2 * r.below(2));
+                let lent = |r: &mut Random, need: usize| match r.once_in(10) {
+                    true => need.saturating_sub(1 + r.below(3)),
+                    false => need + r.below(4),
+                };
                 let (words, tags) = (lent(r, shape.words()), lent(r, shape.rows()));
                 let got = differs(r, text.as_bytes(), &s, words, tags);
                 if got.is_ok() && words >= shape.words() && tags >= shape.rows() {
