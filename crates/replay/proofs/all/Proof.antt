@@ -7,7 +7,7 @@ use Rattle.replay.proofs.all.Statement.{statement}
 use Rattle.replay.proofs.all.Tie as tie
 
 abbrev Inv-loop : tie.InvT-loop
-Inv-loop buf₀ sheet₀ chain₀ words₀ tags₀ out₀ st₀ left₀ turns₀ buf sheet chain words tags out st left turns = 
+Inv-loop buf₀ sheet₀ chain₀ words₀ tags₀ out₀ st₀ left₀ turns₀ buf sheet chain words tags out st left turns =
     (left ≤ length buf) × (length buf ≡ length buf₀) × (st .n ≤ length sheet) × (length sheet ≡ length sheet₀) × (length chain ≡ length chain₀) × (length words ≡ length words₀) × (length tags ≡ length tags₀)
 
 abbrev μ-loop : tie.MeasureT-loop

@@ -7,7 +7,7 @@ use Rattle.replay.proofs.run.Statement.{statement}
 use Rattle.replay.proofs.run.Tie as tie
 
 abbrev Inv-loop : tie.InvT-loop
-Inv-loop list sheet₀ chain₀ words₀ tags₀ out₀ st₀ at₀ sheet chain words tags out st at = 
+Inv-loop list sheet₀ chain₀ words₀ tags₀ out₀ st₀ at₀ sheet chain words tags out st at =
     (length sheet ≡ length sheet₀) × (st .n ≤ length sheet) × (length chain ≡ length chain₀) × (length words ≡ length words₀) × (length tags ≡ length tags₀)
 
 abbrev μ-loop : tie.MeasureT-loop
