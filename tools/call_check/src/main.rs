@@ -35,11 +35,22 @@ fn memory(r: &mut Random, words: usize, tags: usize) -> (Vec<u64>, Vec<u8>) {
     (words, (0..tags).map(|_| r.below(256) as u8).collect())
 }
 
+/// Runs `f` on a thread with 4 MiB of stack, which a call has to do with.
+fn on_small_stack<T: Send>(f: impl FnOnce() -> T + Send) -> T {
+    std::thread::scope(|scope| {
+        let thread = std::thread::Builder::new().stack_size(4 << 20).spawn_scoped(scope, f);
+        thread.unwrap().join().unwrap()
+    })
+}
+
 /// One call beside our own reading, on the same memory; what differs.
 fn differs(r: &mut Random, text: &[u8], s: &Settings, words: usize, tags: usize) -> Result<Answer, String> {
     let before = memory(r, words, tags);
     let (mut w, mut t) = before.clone();
-    let got = call::call(text, s, &mut w, &mut t)?;
+    let got = match r.once_in(20) {
+        true => on_small_stack(|| call::call(text, s, &mut w, &mut t)),
+        false => call::call(text, s, &mut w, &mut t),
+    }?;
     let (mut rw, mut rt) = before.clone();
     let (want, _) = reference::call(text, s, &mut rw, &mut rt);
     if got != want {
