@@ -1,0 +1,38 @@
+-- `report::put_end` meets its contract. Assumes nothing.
+use borrow.Author.Needs.{needs}
+use Rattle.report.proofs.Placing.{placed-then}
+use Rattle.report.proofs.put_end.Statement.{statement}
+use Rattle.report.proofs.put_end.Tie as tie
+
+slice-aggregate-put-text : tie.Need-slice-aggregate-put-text
+slice-aggregate-put-text c = search needs
+
+put-text-requires : tie.Need-put-text-requires
+put-text-requires c κs = search needs
+
+put-number-requires : tie.Need-put-number-requires
+put-number-requires c κs = search needs
+
+slice-aggregate-put-text-2 : tie.Need-slice-aggregate-put-text-2
+slice-aggregate-put-text-2 c = search needs
+
+put-text-requires-2 : tie.Need-put-text-requires-2
+put-text-requires-2 c κs = search needs
+
+same-length : tie.Need-same-length
+same-length c = search needs
+
+returns : tie.Need-returns
+returns c = placed-then (c .before .before .before .before .before .before .before .before .before .before .before .put-text .ensures) (placed-then (c .before .before .before .before .before .before .before .put-number .ensures .0) (c .before .before .put-text2 .ensures))
+
+pub put-end-spec : {M : Type 1} → statement M
+put-end-spec =
+    tie.close
+    (tie.spec
+    slice-aggregate-put-text
+    put-text-requires
+    put-number-requires
+    slice-aggregate-put-text-2
+    put-text-requires-2
+    same-length
+    returns)
