@@ -1,2 +1,3 @@
 -- The proofs of this crate. Assumes nothing.
 pub mod Coding
+pub mod Entry

@@ -4,7 +4,8 @@ ghost use mathlib.Core.Path.{_≡_};
 ghost use mathlib.Core.List.{[], _∷_, _++_};
 ghost use Prim.Native.Nat.{_≤_};
 ghost use lib.ListN.{length, take, drop};
-ghost use Rattle.keymove_c.specs.Encoding.{value-bits, encoded};
+ghost use Rattle.keymove_c.specs.Encoding.{value-bits, encoded, served, entry-of};
+ghost use Rattle.opening.specs.Opening.{asked};
 
 // The bits of a value, 0 for a NaN.
 fn bits_of(v: f64) -> u64
@@ -52,7 +53,9 @@ pub extern "C" fn keymove_choose(
     words: &mut [u64],
     tags: &mut [u8],
     out: &mut [u64],
-) {
+)
+    ensures { λ _. ⌜ served (now (out .exit)) (now (words .exit)) (now (tags .exit)) ≡ entry-of (asked (now (sheet .entry)) budget entries driver filters (now (chain .entry)) (now (words .entry)) (now (tags .entry))) (now (out .entry)) ⌝ }
+{
     if out.len() < 4 {
         return;
     }
