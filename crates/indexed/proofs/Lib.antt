@@ -7,6 +7,7 @@ pub mod Masks
 pub mod Wakes
 pub mod Roles
 pub mod Chosen
+pub mod Crosses
 pub mod Stages
 pub mod Pays
 pub mod Sums

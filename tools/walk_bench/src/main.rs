@@ -45,7 +45,7 @@ const SEED: u64 = 88_172_645_463_325_252;
 
 /// The net's words, or nothing if its sheet is refused.
 fn compile(text: &str) -> Option<Vec<u64>> {
-    let (mut rows, mut c, mut cells) = (vec![0; 6_560], vec![0; 74_240], vec![0; 65_536]);
+    let (mut rows, mut c, mut cells) = (vec![0; 6_560], vec![0; 75_264], vec![0; 65_536]);
     let done = unsafe {
         walk_compile(
             text.as_ptr(),
