@@ -5,7 +5,8 @@
 use std::path::{Path, PathBuf};
 
 fn main() {
-    let root = Path::new(env!("CARGO_MANIFEST_DIR")).join("../..");
+    let here = PathBuf::from(std::env::var_os("CARGO_MANIFEST_DIR").unwrap());
+    let root = here.join("../..");
     if std::env::var_os("CARGO_FEATURE_PLAIN").is_some() {
         let to = PathBuf::from(std::env::var_os("OUT_DIR").unwrap()).join("plain.rs");
         std::fs::write(to, plain(&root)).unwrap();
