@@ -2,6 +2,20 @@
 
 use crate::reference::{Answer, Settings};
 
+/// The sources without their clauses, as Rust.
+#[cfg(feature = "plain")]
+#[allow(warnings)]
+pub mod plain {
+    include!(concat!(env!("OUT_DIR"), "/plain.rs"));
+}
+
+/// The one function of Rattle's own library that the sources use.
+#[cfg(feature = "plain")]
+pub fn whole_part(x: f64) -> i64 {
+    x as i64
+}
+
+#[allow(clashing_extern_declarations)]
 extern "C" {
     fn keymove_choose(
         sheet: *const u8,
@@ -22,8 +36,8 @@ extern "C" {
 }
 
 /// The four words as an answer, or why they are none.
-fn decoded(out: [u64; 4]) -> Result<Answer, String> {
-    let [kind, a, b, nodes] = out;
+fn decoded(out: &[u64]) -> Result<Answer, String> {
+    let &[kind, a, b, nodes] = out else { return Err("not four words".into()) };
     let value = f64::from_bits(b);
     match kind {
         0 if value as i64 as f64 == value && value.to_bits() != (-0.0f64).to_bits() => {
@@ -38,67 +52,71 @@ fn decoded(out: [u64; 4]) -> Result<Answer, String> {
 
 /// Guards before and behind each buffer.
 const GUARD: usize = 16;
+const WORD: u64 = 0x5EED_5EED_5EED_5EED;
+const BYTE: u8 = 0xD5;
 
 /// A copy of `inner` between two guards.
 fn guarded<T: Copy>(inner: &[T], guard: T) -> Vec<T> {
-    [vec![guard; GUARD], inner.to_vec(), vec![guard; GUARD]].concat()
+    [&[guard; GUARD], inner, &[guard; GUARD]].concat()
 }
 
 fn intact<T: PartialEq>(all: &[T], guard: T) -> bool {
     all[..GUARD].iter().chain(&all[all.len() - GUARD..]).all(|x| *x == guard)
 }
 
-/// The call; an error if it wrote outside the lent memory or the four words.
-pub fn call(sheet: &[u8], s: &Settings, words: &mut [u64], tags: &mut [u8]) -> Result<Answer, String> {
-    const WORD: u64 = 0x5EED_5EED_5EED_5EED;
-    let (mut w, mut t) = (guarded(words, WORD), guarded(tags, 0xD5));
-    let mut out = guarded(&[WORD; 4], WORD);
-    unsafe {
-        keymove_choose(
-            sheet.as_ptr(),
-            sheet.len(),
-            s.budget,
-            s.entries,
-            s.driver,
-            s.filters,
-            s.chain.as_ptr(),
-            s.chain.len(),
-            w[GUARD..].as_mut_ptr(),
-            words.len(),
-            t[GUARD..].as_mut_ptr(),
-            tags.len(),
-            out[GUARD..].as_mut_ptr(),
-            4,
-        );
-    }
-    if !intact(&w, WORD) || !intact(&t, 0xD5) || !intact(&out, WORD) {
-        return Err("written outside the lent memory".into());
-    }
-    words.copy_from_slice(&w[GUARD..GUARD + words.len()]);
-    tags.copy_from_slice(&t[GUARD..GUARD + tags.len()]);
-    decoded(out[GUARD..GUARD + 4].try_into().unwrap())
+/// What is lent between the guards.
+fn inner<T>(all: &mut [T]) -> &mut [T] {
+    let end = all.len() - GUARD;
+    &mut all[GUARD..end]
 }
 
-/// With fewer than four words for the answer the call does nothing.
-pub fn short(sheet: &[u8], s: &Settings, words: &mut [u64], tags: &mut [u8], n: usize) -> bool {
-    let (before, mut out) = ((words.to_vec(), tags.to_vec()), [7u64; 4]);
+/// The call with `n` words for the answer, which it leaves; an error if it wrote outside of what is
+/// lent. The sheet and the chain stand between guards too, and must be as before; an empty one has
+/// an address that cannot be read.
+fn raw(sheet: &[u8], s: &Settings, words: &mut [u64], tags: &mut [u8], n: usize) -> Result<Vec<u64>, String> {
+    let (mut w, mut t, mut out) = (guarded(words, WORD), guarded(tags, BYTE), guarded(&vec![WORD; n], WORD));
+    let (mut sh, mut ch) = (guarded(sheet, BYTE), guarded(&s.chain, BYTE));
     unsafe {
         keymove_choose(
-            sheet.as_ptr(),
+            if sheet.is_empty() { [].as_ptr() } else { inner(&mut sh).as_ptr() },
             sheet.len(),
             s.budget,
             s.entries,
             s.driver,
             s.filters,
-            s.chain.as_ptr(),
+            if s.chain.is_empty() { [].as_ptr() } else { inner(&mut ch).as_ptr() },
             s.chain.len(),
-            words.as_mut_ptr(),
+            inner(&mut w).as_mut_ptr(),
             words.len(),
-            tags.as_mut_ptr(),
+            inner(&mut t).as_mut_ptr(),
             tags.len(),
-            out.as_mut_ptr(),
+            inner(&mut out).as_mut_ptr(),
             n,
         );
     }
-    out == [7; 4] && before.0 == words && before.1 == tags
+    if !intact(&w, WORD) || !intact(&t, BYTE) || !intact(&out, WORD) {
+        return Err("written outside the lent memory".into());
+    }
+    if !intact(&sh, BYTE) || !intact(&ch, BYTE) || inner(&mut sh) != sheet || inner(&mut ch) != s.chain {
+        return Err("the sheet or the chain was written".into());
+    }
+    words.copy_from_slice(inner(&mut w));
+    tags.copy_from_slice(inner(&mut t));
+    Ok(inner(&mut out).to_vec())
+}
+
+/// The call.
+pub fn call(sheet: &[u8], s: &Settings, words: &mut [u64], tags: &mut [u8]) -> Result<Answer, String> {
+    decoded(&raw(sheet, s, words, tags, 4)?)
+}
+
+/// Whether the call with `n` words for the answer, fewer than four, does nothing; with more than
+/// four it leaves the others as they were.
+pub fn odd(sheet: &[u8], s: &Settings, words: &mut [u64], tags: &mut [u8], n: usize) -> Result<bool, String> {
+    let before = (words.to_vec(), tags.to_vec());
+    let out = raw(sheet, s, words, tags, n)?;
+    if n < 4 {
+        return Ok(out.iter().all(|&x| x == WORD) && before.0 == words && before.1 == tags);
+    }
+    Ok(out[4..].iter().all(|&x| x == WORD) && decoded(&out[..4]).is_ok())
 }

@@ -174,7 +174,7 @@ pub fn agrees(net: &Net, rust: &Rust, s: &Settings) -> Result<(Answer, bool), St
             o => Err(format!("reference {answer}, Rust {}", show(&o, s.budget))),
         },
         Answer::Refused { .. } => Ok(false),
-        _ => same(&answer, s, rust.choose(s), &words, &tags, &dict),
+        _ => same(&answer, net, s, rust.choose(s), &words, &tags, &dict),
     }?;
     // A refusal's count is the least budget that it comes with: the Rust
     // counts as many nodes before it.
@@ -184,7 +184,7 @@ pub fn agrees(net: &Net, rust: &Rust, s: &Settings) -> Result<(Answer, bool), St
         if spent != (Answer::Spent { nodes }) {
             return Err(format!("{answer}, but {spent} with less"));
         }
-        same(&spent, &less, rust.choose(&less), &words, &tags, &dict)?;
+        same(&spent, net, &less, rust.choose(&less), &words, &tags, &dict)?;
     }
     Ok((answer, compared))
 }
@@ -202,8 +202,10 @@ fn left_right(answer: &Answer, net: &Net, s: &Settings, words: &[u64], tags: &[u
     untouched && (zero || matches!(answer, Answer::Exact { .. } | Answer::Spent { .. }))
 }
 
+/// Whether the Rust's answer, its whole memo and its dictionary are the same.
 fn same(
     answer: &Answer,
+    net: &Net,
     s: &Settings,
     o: Outcome,
     words: &[u64],
@@ -221,7 +223,8 @@ fn same(
     if !same || o.fell_back {
         return Err(format!("reference {answer}, Rust {}", show(&o, s.budget)));
     }
-    if o.words[..] != words[..o.words.len()] || o.tags[..] != tags[..o.tags.len()] {
+    let shape = Shape::new(s.entries as usize, net.places, !net.values.is_empty());
+    if o.words[..] != words[..shape.words()] || o.tags[..] != tags[..shape.rows()] {
         return Err(format!("{answer}: the memos differ"));
     }
     // The Rust's sums of no rewards are -0.0.
