@@ -1,7 +1,8 @@
 //! Nodes per second of the call and of the Rust on the same positions, from one driver in one
 //! run; answers, counts, words and tags must be the same. Then how the cost of a node grows with
 //! the net, the time of a whole call on 01's first sheet, and the stack that a call uses.
-//! The call's time is from the sheet on; the Rust's is without its reading of the net.
+//! The call's time is from the sheet on; the Rust's is without its reading of the net. Times are the
+//! thread's own on its processor, so that other work on the machine disturbs less.
 #![allow(dead_code)]
 
 mod call;
@@ -19,7 +20,10 @@ use draft::{Arc, Draft};
 use random::Random;
 use reference::{memo::Shape, net::Net, sheet, Answer, Settings};
 use rust::{Got, Rust};
-use std::time::Instant;
+
+extern "C" {
+    fn clock_gettime(clock: i32, time: *mut [i64; 2]) -> i32;
+}
 
 /// Net, budget, entries, driver, filters, chain. A net with "wide" has more than 16 values, so
 /// that its memo has wide rows.
@@ -30,12 +34,12 @@ const POSITIONS: [Position; 16] = [
     ("row 4 4 4", 10_000_000, 1_024, 2, 3, "0124"),
     ("row 5 5 4", 1_500_000, 1_024, 2, 2, "02"),
     ("row 6 6 4", 3_000_000, 1_024, 1, 1, "01234"),
-    ("drop 4 5 4", 5_000_000, 1_024, 0, 1, "0124"),
+    ("drop 4 5 4", 5_000_000, 100, 0, 1, "0124"),
     ("drop 5 5 4 wide", 2_000_000, 1_024, 1, 3, "012"),
     ("drop 6 7 4", 3_000_000, 1_024, 2, 1, "0124"),
     ("hex 4", 5_000_000, 1_024, 1, 0, "012"),
     ("hex 4 wide", 3_000_000, 1_024, 2, 0, "34"),
-    ("domineering 5 5", 5_000_000, 1_024, 2, 1, "012"),
+    ("domineering 5 5", 5_000_000, 200, 2, 1, "012"),
     ("domineering 6 6", 2_000_000, 256, 2, 2, ""),
     ("nim 3 4 5 5 wide", 5_000_000, 64, 2, 3, "21"),
     ("random 1 20 10", 5_000_000, 1_024, 0, 1, "0123"),
@@ -136,6 +140,14 @@ fn same(got: &Answer, rust: &Got) -> Option<u64> {
     }
 }
 
+/// Seconds that this thread has run.
+fn now() -> f64 {
+    const THREAD: i32 = 3;
+    let mut time = [0; 2];
+    assert_eq!(unsafe { clock_gettime(THREAD, &mut time) }, 0);
+    time[0] as f64 + time[1] as f64 * 1e-9
+}
+
 /// The median of the rounds.
 fn median(mut v: Vec<f64>) -> f64 {
     v.sort_by(f64::total_cmp);
@@ -163,15 +175,15 @@ fn measure(p: &Position, rounds: usize, again: usize) -> Option<Measured> {
     let shape = Shape::new(s.entries as usize, net.places, !net.values.is_empty());
     let (mut ours, mut theirs, mut last) = (vec![], vec![], None);
     for _ in 0..rounds {
-        let start = Instant::now();
+        let start = now();
         let mut o = rust.choose(&s);
         (1..again).for_each(|_| o = rust.choose(&s));
-        theirs.push(start.elapsed().as_secs_f64() / again as f64);
+        theirs.push((now() - start) / again as f64);
         let (mut words, mut tags) = (vec![9; shape.words()], vec![9; shape.rows()]);
-        let start = Instant::now();
+        let start = now();
         let mut got = call::call(text.as_bytes(), &s, &mut words, &mut tags);
         (1..again).for_each(|_| got = call::call(text.as_bytes(), &s, &mut words, &mut tags));
-        ours.push(start.elapsed().as_secs_f64() / again as f64);
+        ours.push((now() - start) / again as f64);
         last = got.as_ref().ok().and_then(|a| Some((*a, same(a, &o.got)?)));
         if last.is_none() || o.fell_back || words != o.words || tags != o.tags {
             println!("{} {s:?}: {got:?}, Rust {}: DIFFERENT", p.0, rust::show(&o, s.budget));
@@ -182,12 +194,12 @@ fn measure(p: &Position, rounds: usize, again: usize) -> Option<Measured> {
     Some(Measured { answer, nodes, ours: median(ours), theirs: median(theirs), compact: shape.compact, net })
 }
 
-/// The table of positions; false where one differs.
-fn positions(rounds: usize) -> bool {
+/// The table of positions whose names begin so; false where one differs.
+fn positions(rounds: usize, name: &str) -> bool {
     println!("| position | driver | filters | chain | entries | rows | answer | ours, nodes/s | Rust, nodes/s | Rust's time / ours |");
     println!("|---|---|---|---|---|---|---|---|---|---|");
     let mut good = true;
-    for p in &POSITIONS {
+    for p in POSITIONS.iter().filter(|p| p.0.starts_with(name)) {
         let Some(m) = measure(p, rounds, 1) else {
             good = false;
             continue;
@@ -245,9 +257,9 @@ fn first() {
     let s = Settings { budget: 1_000, entries: 1_024, driver: 1, filters: 1, chain: vec![0, 1, 2] };
     let (mut words, mut tags) = (vec![0; 7_168], vec![0; 1_024]);
     let times = (0..1_001).map(|_| {
-        let start = Instant::now();
+        let start = now();
         let _ = call::call(&text, &s, &mut words, &mut tags);
-        start.elapsed().as_secs_f64() * 1e6
+        (now() - start) * 1e6
     });
     println!("\nThe whole call on the first sheet: {:.1} µs.", median(times.collect()));
 }
@@ -279,7 +291,10 @@ fn stacks() {
 
 fn run() -> i32 {
     let rounds = std::env::args().nth(1).map_or(3, |n| n.parse().expect("a number of rounds"));
-    let good = positions(rounds) & growth(rounds);
+    if let Some(name) = std::env::args().nth(2) {
+        return !positions(rounds, &name) as i32;
+    }
+    let good = positions(rounds, "") & growth(rounds);
     first();
     stacks();
     !good as i32

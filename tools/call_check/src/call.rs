@@ -15,7 +15,6 @@ pub fn whole_part(x: f64) -> i64 {
     x as i64
 }
 
-#[allow(clashing_extern_declarations)]
 extern "C" {
     fn keymove_choose(
         sheet: *const u8,

@@ -1,5 +1,6 @@
 //! How much stack a function uses: it runs on a thread whose stack is memory of our own, painted
-//! before; the deepest byte that is no longer as painted tells how far it came.
+//! before; the deepest byte that is no longer as painted tells how far it came. What lies below that
+//! byte and was set aside but never written is not seen.
 
 use std::ffi::c_void;
 use std::sync::Mutex;
