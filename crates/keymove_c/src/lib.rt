@@ -5,7 +5,7 @@ ghost use mathlib.Core.List.{[], _∷_, _++_};
 ghost use Prim.Native.Nat.{_≤_};
 ghost use lib.ListN.{length, take, drop};
 ghost use Rattle.keymove_c.specs.Encoding.{value-bits, encoded, served, entry-of};
-ghost use Rattle.opening.specs.Opening.{asked};
+ghost use Rattle.rules.specs.Call.{asked};
 
 // The bits of a value, 0 for a NaN.
 fn bits_of(v: f64) -> u64

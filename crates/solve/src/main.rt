@@ -15,7 +15,7 @@ fn wide(x: u8) -> u64 {
     x as u64
 }
 
-// One digit more; a number past 64 bits stays at the largest.
+// One digit more; a number from 10^19 on becomes the largest of 64 bits.
 fn longer(n: u64, digit: u64) -> u64 {
     if n < 1_000_000_000_000_000_000 {
         return std::num::wrapping_add_u64(words::wrapping_mul64(n, 10), digit);
@@ -24,7 +24,7 @@ fn longer(n: u64, digit: u64) -> u64 {
 }
 
 // The number of decimal digits.
-fn number(text: &[u8]) -> Given {
+fn digits(text: &[u8]) -> Given {
     if text.len() == 0 {
         return Given::Malformed;
     }
@@ -42,6 +42,30 @@ fn number(text: &[u8]) -> Given {
         i += 1;
     }
     Given::Is(n)
+}
+
+// A number with `-` before it, which no range has, as the largest; `-0` is none.
+fn negative(size: Given) -> Given {
+    match size {
+        Given::Malformed => Given::Malformed,
+        Given::Is(n) => {
+            if n == 0 {
+                return Given::Malformed;
+            }
+            Given::Is(18446744073709551615)
+        }
+    }
+}
+
+// A number as a sheet has it, but for leading zeros.
+fn number(text: &[u8]) -> Given {
+    if text.len() == 0 {
+        return Given::Malformed;
+    }
+    if text[0] == b'-' {
+        return negative(digits(&text[1..]));
+    }
+    digits(text)
 }
 
 // Argument i as a number.
@@ -95,9 +119,17 @@ fn usage() {
     say(b"solve BUDGET ENTRIES DRIVER FILTERS CHAIN < SHEET\n");
 }
 
-fn explain(refusal: Refusal) {
+fn explain_sheet(line: u64) {
+    if line == 0 {
+        say(b"the sheet has more than 65,536 bytes");
+    } else {
+        say(b"a line of the sheet is malformed");
+    }
+}
+
+fn explain(refusal: Refusal, line: u64) {
     match refusal {
-        Refusal::Sheet => say(b"a line of the sheet is malformed"),
+        Refusal::Sheet => explain_sheet(line),
         Refusal::Range => say(b"a number, an index or a count of rows is beyond a limit"),
         Refusal::Roll => say(
             b"a place is marked or a transition given its role twice, or it has none",
@@ -122,7 +154,7 @@ fn told(answer: Answer) {
         nodes,
     } = answer {
         say(b"refused: ");
-        explain(refusal);
+        explain(refusal, line);
         if 0 < line {
             say(b", line ");
             io::print_decimal(2, line);

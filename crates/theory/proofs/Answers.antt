@@ -4,11 +4,11 @@
 use mathlib.Core.Path.{_≡_, refl, sym, ap, _∙_}
 use mathlib.Core.Bool.{true≢false}
 use mathlib.Core.Option.{some}
-use mathlib.Core.List.{List, _++_}
+use mathlib.Core.Logic.{inl, inr}
+use mathlib.Core.List.{List}
 use Prim.Native.Nat.{ℕ, _+_, _≤_, _<_}
 use native.Mathlib.Omega.{arith}
 use lib.Ieee.{Float}
-use lib.ListN.{drop, replicate}
 use Rattle.rules.specs.declared.Refusal.{Refusal}
 use Rattle.rules.specs.declared.Answer.{Answer}
 use Rattle.rules.specs.declared.Answer.the-variants.{Exact, None, Spent, Refused}
@@ -18,11 +18,11 @@ use Rattle.rules.specs.Play.{Marking, start}
 use Rattle.rules.specs.Search.{Outcome, value, spent, refused, State}
 use Rattle.rules.specs.Choose.{Choice, no-move, no-child, key}
 use Rattle.rules.specs.Answer.{refusal-number}
-use Rattle.rules.specs.Call.{Request, Result, memo-words, memo-tags, settings-of, first-state, choice, Accepted, ended, call}
+use Rattle.rules.specs.Call.{Request, Result, untouched, settings-of, first-state, choice, Accepted, ended, call}
 use Rattle.theory.specs.Conditions.{Condition, mixed, move-spills, auto-spills, endless, wide, deep}
-use Rattle.theory.proofs.Inputs.{First, settings, no-goals, memory, unsettled-start}
+use Rattle.theory.proofs.Inputs.{First, refused-first, settings, no-goals, memory, unsettled-start}
 use Rattle.theory.proofs.Refusals.{unread-early, Because, by-sheet, by-input, by-state, Went, unread-sheet, bad-input, was-accepted, went, call-unread, call-input, call-searched, refused-because, because-refused}
-use Rattle.theory.specs.Promise.{Means}
+use Rattle.theory.specs.Promise.{Means, Either, Leaves}
 use Rattle.theory.proofs.Demand3.{answer-means}
 
 -- the numbers of the conditions
@@ -89,28 +89,36 @@ module _ (r : Request) where
       go (bad-input net y a b) = (ap (λ (z : Result). z .words) (call-input r net y a b), ap (λ (z : Result). z .tags) (call-input r net y a b))
       go (was-accepted net A) = absurd (omega (arith, condition-number (state-condition A e)))
 
--- After any other answer the memo's part holds these words and tags, and what lies behind it is as it was.
-pub record Left (net : Net) (r : Request) (z : Result) (words tags : List ℕ) : Type 0 where
-  pub words-left : z .words ≡ words ++ drop (memo-words net r) (r .words)
-  pub tags-left : z .tags ≡ tags ++ drop (memo-tags net r) (r .tags)
-
--- `none` and refusals 8 to 12 leave zeros, an exact answer and `spent` what the last store left
-abbrev pub Leaves : (net : Net) (r : Request) → State (settings-of net r) → Result → Answer → Type 0
-Leaves net r st z (Exact t v n) = Left net r z (st .memo .words) (st .memo .tags)
-Leaves net r st z None = Left net r z (replicate (memo-words net r) 0) (replicate (memo-tags net r) 0)
-Leaves net r st z (Spent n) = Left net r z (st .memo .words) (st .memo .tags)
-Leaves net r st z (Refused x l n) = Left net r z (replicate (memo-words net r) 0) (replicate (memo-tags net r) 0)
-
-pub memory-left : (r : Request) (net : Net) → Accepted r net → Leaves net r (choice net r (some (r .budget)) (start net) (first-state net r) .1) (call r) (call r .answer)
+-- After any other answer the memo's part is zero, or holds what was stored last, and what lies behind it is as it was.
+pub memory-left : (r : Request) (net : Net) → Accepted r net → Leaves net r (call r .answer) (call r .words) (call r .tags)
 unfolding ended
 memory-left r net A = rw (call-searched r net A) (go (end .0))
   where
     end : Outcome (Choice Float) × State (settings-of net r)
     end = choice net r (some (r .budget)) (start net) (first-state net r)
 
-    go : (o : Outcome (Choice Float)) → Leaves net r (end .1) (ended net r o (end .1)) (ended net r o (end .1) .answer)
+    go : (o : Outcome (Choice Float)) → Leaves net r (ended net r o (end .1) .answer) (ended net r o (end .1) .words) (ended net r o (end .1) .tags)
     go (value no-move) = record { words-left = refl; tags-left = refl }
     go (value no-child) = record { words-left = refl; tags-left = refl }
     go (value (key t v)) = record { words-left = refl; tags-left = refl }
     go spent = record { words-left = refl; tags-left = refl }
     go (refused x) = record { words-left = refl; tags-left = refl }
+
+-- The input is accepted, or refused by one of 1 to 7 with all lent memory as it was.
+pub either-way : (r : Request) (a : Answer) (words tags : List ℕ) → call r ≡ record { answer = a; words = words; tags = tags } → Either r a words tags
+either-way r a words tags e = go (went r)
+  where
+    refused-so : (x : Refusal) (line : ℕ) → refusal-number x ≤ 7 → call r ≡ untouched r (Refused x line 0) → Either r a words tags
+    refused-so x line h k = inr (record {
+      refusal = x;
+      line = line;
+      early = h;
+      answers = ap (λ (z : Result). z .answer) (sym e ∙ k);
+      words-kept = ap (λ (z : Result). z .words) (sym e ∙ k);
+      tags-kept = ap (λ (z : Result). z .tags) (sym e ∙ k);
+    })
+
+    go : Went r → Either r a words tags
+    go (unread-sheet x n k) = refused-so x n (omega (arith, unread-early (r .sheet) x n k)) (call-unread r x n k)
+    go (bad-input net x k i) = refused-so x 0 (first-number (refused-first net r x i) .1) (call-input r net x k i)
+    go (was-accepted net A) = inl (net, A)

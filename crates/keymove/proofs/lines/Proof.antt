@@ -3,8 +3,7 @@ use mathlib.Core.Path.{sym, ap, ap₂, _∙_}
 use mathlib.Core.List.{List, [], _∷_}
 use Prim.Native.Nat.{ℕ}
 use Rattle.rules.specs.Answer.{report}
-use Rattle.rules.specs.Call.{Result, call}
-use Rattle.opening.specs.Opening.{asked}
+use Rattle.rules.specs.Call.{Result, call, asked}
 use borrow.Author.Needs.{needs}
 use Rattle.keymove.proofs.lines.Statement.{statement}
 use Rattle.keymove.proofs.lines.Tie as tie

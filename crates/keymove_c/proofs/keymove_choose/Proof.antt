@@ -1,5 +1,5 @@
 -- The entry, by the call and its encoding. Assumes nothing.
-use Rattle.opening.specs.Opening.{asked}
+use Rattle.rules.specs.Call.{asked}
 use Rattle.keymove_c.proofs.Entry.{entry-short, entry-full}
 use borrow.Author.Needs.{needs}
 use Rattle.keymove_c.proofs.keymove_choose.Statement.{statement}

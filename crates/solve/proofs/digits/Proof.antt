@@ -1,9 +1,9 @@
--- `solve::number` is safe and ends. Assumes nothing.
+-- `solve::digits` is safe and ends. Assumes nothing.
 use Prim.Native.Nat.{_≤_, _-_}
 use lib.ListN.{length}
 use borrow.Author.Needs.{needs}
-use Rattle.solve.proofs.number.Statement.{statement}
-use Rattle.solve.proofs.number.Tie as tie
+use Rattle.solve.proofs.digits.Statement.{statement}
+use Rattle.solve.proofs.digits.Tie as tie
 
 abbrev Inv-loop : tie.InvT-loop
 Inv-loop text n₀ i₀ n i = i ≤ length text
@@ -44,8 +44,8 @@ loop-again c = search needs
 returns-4 : tie.Need-returns-4 Inv-loop μ-loop
 returns-4 c = search needs
 
-pub number-spec : {M : Type 1} → statement M
-number-spec =
+pub digits-spec : {M : Type 1} → statement M
+digits-spec =
     tie.close
     (tie.spec
     Inv-loop
