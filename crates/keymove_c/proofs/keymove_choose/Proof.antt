@@ -6,7 +6,7 @@ use Rattle.keymove_c.proofs.keymove_choose.Statement.{statement}
 use Rattle.keymove_c.proofs.keymove_choose.Tie as tie
 
 returns : tie.Need-returns
-returns c = entry-short (asked (c .before .before .before .before .before .before .args .sheet .now) (c .before .before .before .before .before .before .args .budget) (c .before .before .before .before .before .before .args .entries) (c .before .before .before .before .before .before .args .driver) (c .before .before .before .before .before .before .args .filters) (c .before .before .before .before .before .before .args .chain .now) (c .before .before .before .before .before .before .args .words .now) (c .before .before .before .before .before .before .args .tags .now)) (c .before .before .before .before .before .before .args .out .now) (c .if1 .taken)
+returns c = let c6 = c .before .before .before .before .before .before in entry-short (asked (c6 .args .sheet .now) (c6 .args .budget) (c6 .args .entries) (c6 .args .driver) (c6 .args .filters) (c6 .args .chain .now) (c6 .args .words .now) (c6 .args .tags .now)) (c6 .args .out .now) (c .if1 .taken)
 
 choose-requires : tie.Need-choose-requires
 choose-requires c κs = search needs
@@ -24,7 +24,7 @@ same-length-3 : tie.Need-same-length-3
 same-length-3 c = search needs
 
 returns-2 : tie.Need-returns-2
-returns-2 c = entry-full (asked (c .before .before .before .before .before .before .before .before .before .before .before .before .before .before .before .before .before .args .sheet .now) (c .before .before .before .before .before .before .before .before .before .before .before .before .before .before .before .before .before .args .budget) (c .before .before .before .before .before .before .before .before .before .before .before .before .before .before .before .before .before .args .entries) (c .before .before .before .before .before .before .before .before .before .before .before .before .before .before .before .before .before .args .driver) (c .before .before .before .before .before .before .before .before .before .before .before .before .before .before .before .before .before .args .filters) (c .before .before .before .before .before .before .before .before .before .before .before .before .before .before .before .before .before .args .chain .now) (c .before .before .before .before .before .before .before .before .before .before .before .before .before .before .before .before .before .args .words .now) (c .before .before .before .before .before .before .before .before .before .before .before .before .before .before .before .before .before .args .tags .now)) (c .before .before .before .before .before .before .before .before .before .before .before .before .before .before .before .before .before .args .out .now) _ _ _ _ (c .before .before .before .before .before .before .before .before .before .before .before .if1 .left) (c .before .before .encode .ensures) (c .before .before .before .before .before .before .before .before .choose .ensures .0)
+returns-2 c = let c8 = c .before .before .before .before .before .before .before .before in let c11 = c8 .before .before .before in let c17 = c11 .before .before .before .before .before .before in entry-full (asked (c17 .args .sheet .now) (c17 .args .budget) (c17 .args .entries) (c17 .args .driver) (c17 .args .filters) (c17 .args .chain .now) (c17 .args .words .now) (c17 .args .tags .now)) (c17 .args .out .now) _ _ _ _ (c11 .if1 .left) (c .before .before .encode .ensures) (c8 .choose .ensures .0)
 
 pub keymove-choose-spec : {M : Type 1} → statement M
 keymove-choose-spec =
