@@ -60,7 +60,7 @@ pub extern "C" fn walk_compile(
     c: &mut [u64],
     cells: &mut [u64],
 ) -> bool {
-    if c.len() != 75264 {
+    if c.len() != bits::NET_WORDS {
         return false;
     }
     if cells.len() != 65536 {
@@ -125,7 +125,7 @@ fn fire_all(c: &[u64], pos: &[u64], steps: u64) -> u64
 // So many firings from a position: a sum over the transitions and the last position. 0 where the memory does not fit.
 #[no_mangle]
 pub extern "C" fn walk_fire(c: &[u64], pos: &[u64], steps: u64) -> u64 {
-    if c.len() != 75264 {
+    if c.len() != bits::NET_WORDS {
         return 0;
     }
     if pos.len() < 8 {
@@ -201,7 +201,7 @@ pub extern "C" fn walk_play(
     seed: u64,
     turns: u64,
 ) -> u64 {
-    if c.len() != 75264 {
+    if c.len() != bits::NET_WORDS {
         return 0;
     }
     if pos.len() < 8 {

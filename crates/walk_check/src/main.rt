@@ -216,7 +216,7 @@ fn answer(
     text: &[u8],
     rows: &mut [u64; 6560],
     moves: &[u8],
-    c: &mut [u64; 75264],
+    c: &mut [u64; bits::NET_WORDS],
     cells: &mut [u64; 65536],
 ) {
     match sheet::read_sheet(text, rows) {
@@ -243,7 +243,7 @@ fn line(
     n: usize,
     line: &[u8],
     rows: &mut [u64; 6560],
-    c: &mut [u64; 75264],
+    c: &mut [u64; bits::NET_WORDS],
     cells: &mut [u64; 65536],
 ) -> usize
     requires { ⌜ n ≤ length (now sheet) ⌝ }
@@ -264,7 +264,7 @@ fn run(
     list: &[u8],
     sheet: &mut [u8],
     rows: &mut [u64; 6560],
-    c: &mut [u64; 75264],
+    c: &mut [u64; bits::NET_WORDS],
     cells: &mut [u64; 65536],
 ) {
     let mut n = 0;
@@ -280,7 +280,7 @@ fn main() {
     let mut list = [0u8; 524288];
     let mut sheet = [0u8; 70000];
     let mut rows = [0u64; 6560];
-    let mut c = [0u64; 75264];
+    let mut c = [0u64; bits::NET_WORDS];
     let mut cells = [0u64; 65536];
     let n = io::read_full(0, &mut list);
     run(&list[..n], &mut sheet, &mut rows, &mut c, &mut cells);

@@ -9,30 +9,24 @@ use Rattle.report.proofs.whole_part.Reads as reads
 use Rattle.report.proofs.whole_part.Lts as lts
 use Rattle.std.proofs.num.truncating_f64_to_i64.Reads as truncating-f64-to-i64-reads
 
--- src/lib.rt:40:13
 truncating-f64-to-i64-requires : tie.Need-truncating-f64-to-i64-requires
 unfolding ofBits neg
 truncating-f64-to-i64-requires c κs = (subst T (sym (c .if2 .taken)) tt, subst T (sym (c .before .if1 .taken)) tt)
 
--- src/lib.rt:40:13
 returns : tie.Need-returns
 returns c = search needs
 
--- src/lib.rt:42:16
 sub-result : tie.Need-sub-result
 sub-result c = search needs
 
--- src/lib.rt:42:9
 returns-2 : tie.Need-returns-2
 unfolding ofBits neg
 returns-2 c = sym (part-low (c .before .before .args .v) (c .before .if1 .taken) (c .if2 .left))
 
--- src/lib.rt:45:9
 returns-3 : tie.Need-returns-3
 unfolding ofBits neg
 returns-3 c = sym (part-high (c .before .before .args .v) (c .before .if1 .left) (c .if3 .taken))
 
--- src/lib.rt:35:1
 returns-4 : tie.Need-returns-4
 returns-4 c = sym (part-nan (c .before .before .args .v) (c .if3 .left))
 
