@@ -22,7 +22,7 @@ slice-reshare-prefix-hashed-words : tie.Need-slice-reshare-prefix-hashed-words
 slice-reshare-prefix-hashed-words c = search needs
 
 slice-aggregate-hashed-words : tie.Need-slice-aggregate-hashed-words
-slice-aggregate-hashed-words c = let c11 = c .before .before .before .before .before .before .before .before .before .before .before in let c25 = c11 .before .before .before .before .before .before .before .before .before .before .before .before .before .before in sym (length-take-le (c11 .turns .result .n) (c11 .turns .last .1 .1 .0) (omega (arith, c11 .turns .ensures, c11 .turns .kept .1 .1 .0, c25 .pre .0 .dict-room)))
+slice-aggregate-hashed-words c = sym (length-take-le (c .before .before .before .before .before .before .before .before .before .before .before .turns .result .n) (c .before .before .before .before .before .before .before .before .before .before .before .turns .last .1 .1 .0) (omega (arith, c .before .before .before .before .before .before .before .before .before .before .before .turns .ensures, c .before .before .before .before .before .before .before .before .before .before .before .turns .kept .1 .1 .0, c .before .before .before .before .before .before .before .before .before .before .before .before .before .before .before .before .before .before .before .before .before .before .before .before .before .pre .0 .dict-room)))
 
 hashed-words-requires-2 : tie.Need-hashed-words-requires-2
 hashed-words-requires-2 c κs = search needs
