@@ -1,7 +1,9 @@
 // Replays sequences of stores and gets, and writes for each table a line: entries, key words, 1 if compact, words in the dictionary, and a hash.
-// The file stdout is what the Rust's memo gives on the same sequences (tools/memo_bench/run replay). The hash is FNV-1a, 64 bits, of the bytes, low first,
-// of what each get answers (its bounds' bits and best move, or 7), and then of every word and tag of the table and every word of the dictionary.
-ghost use Prim.Native.Nat.{_^_, _≤_, _<_};
+// The hash is FNV-1a, 64 bits, of the bytes, low first, of what each get answers (its bounds' bits and best move, or 7), and then of every word and tag of
+// the table and every word of the dictionary. Two short runs are written out whole: words, tags, dictionary, and what a get of each key that was stored
+// gives. The file stdout is what the Rust's memo gives on all of these (oracle memo-list); its last three lines, gets from rows that no store wrote, are
+// document 02's reading.
+ghost use Prim.Native.Nat.{_*_, _+_, _^_, _≤_, _<_};
 ghost use lib.ListN.{length};
 ghost use Rattle.memo.specs.Sized.{Measured, Sized};
 
@@ -92,6 +94,51 @@ fn best(r: u64) -> u64
 }
 
 // Stores an entry whose bounds lie between -1,000,000 and 1,000,000; how many words the dictionary then has.
+fn store_key(
+    words: &mut [u64],
+    tags: &mut [u8],
+    dict: &mut [u64],
+    table: memo::Table,
+    n: usize,
+    generation: u64,
+    k0: u64,
+    k1: u64,
+    k2: u64,
+    k3: u64,
+    e: memo::Entry,
+    nodes: u64,
+) -> usize
+    requires { ⌜ Sized table (now words) (now tags) (now dict) n × (generation < 128) × (e .best < 2 ^ 32) ⌝ }
+    ensures { λ r. ⌜ r ≤ 255 ⌝ }
+{
+    if -1000000.0 <= e.lo {
+        if e.lo <= 1000000.0 {
+            if -1000000.0 <= e.hi {
+                if e.hi <= 1000000.0 {
+                    return memo::store(
+                        words,
+                        tags,
+                        dict,
+                        n,
+                        generation,
+                        table,
+                        -1000000.0,
+                        1000000.0,
+                        k0,
+                        k1,
+                        k2,
+                        k3,
+                        e,
+                        nodes,
+                    );
+                }
+            }
+        }
+    }
+    n
+}
+
+// The same under key number at.
 fn store_entry(
     words: &mut [u64],
     tags: &mut [u8],
@@ -107,31 +154,20 @@ fn store_entry(
     ensures { λ r. ⌜ r ≤ 255 ⌝ }
 {
     let kw = table.key_words;
-    if -1000000.0 <= e.lo {
-        if e.lo <= 1000000.0 {
-            if -1000000.0 <= e.hi {
-                if e.hi <= 1000000.0 {
-                    return memo::store(
-                        words,
-                        tags,
-                        dict,
-                        n,
-                        generation,
-                        table,
-                        -1000000.0,
-                        1000000.0,
-                        key(at, 0, kw),
-                        key(at, 1, kw),
-                        key(at, 2, kw),
-                        key(at, 3, kw),
-                        e,
-                        nodes,
-                    );
-                }
-            }
-        }
-    }
-    n
+    store_key(
+        words,
+        tags,
+        dict,
+        table,
+        n,
+        generation,
+        key(at, 0, kw),
+        key(at, 1, kw),
+        key(at, 2, kw),
+        key(at, 3, kw),
+        e,
+        nodes,
+    )
 }
 
 // One turn: a get of the key drawn, a store by two more numbers, or a new generation.
@@ -341,6 +377,426 @@ fn entries_of(j: usize) -> usize
     }
 }
 
+// The entry of three numbers of a run: its bounds, with 0x10_0000 added for a minus, and its best move.
+fn entry_of(lo: u64, hi: u64, t: u64) -> memo::Entry
+    ensures { λ r. ⌜ r .best < 2 ^ 32 ⌝ }
+{
+    memo::Entry {
+        lo: value(lo, 16),
+        hi: value(hi, 16),
+        best: best(t),
+    }
+}
+
+// A store of a run, seven numbers from at on: three words of the key, the bounds, the best move, the nodes. How many words the dictionary then has.
+fn store_row(
+    words: &mut [u64],
+    tags: &mut [u8],
+    dict: &mut [u64],
+    table: memo::Table,
+    n: usize,
+    run: &[u64],
+    at: usize,
+) -> usize
+    requires { ⌜ Sized table (now words) (now tags) (now dict) n × (at < 100) × (at + 7 ≤ length (now run)) ⌝ }
+    ensures { λ r. ⌜ r ≤ 255 ⌝ }
+{
+    let e = entry_of(run[at + 3], run[at + 4], run[at + 5]);
+    store_key(
+        words,
+        tags,
+        dict,
+        table,
+        n,
+        2,
+        run[at],
+        run[at + 1],
+        run[at + 2],
+        0,
+        e,
+        run[at + 6],
+    )
+}
+
+// The stores of a run.
+fn stores(
+    words: &mut [u64],
+    tags: &mut [u8],
+    dict: &mut [u64],
+    table: memo::Table,
+    run: &[u64],
+    count: usize,
+) -> usize
+    requires { ⌜ Sized table (now words) (now tags) (now dict) 0 × (count ≤ 10) × (7 * count ≤ length (now run)) ⌝ }
+    ensures { λ r. ⌜ r ≤ 255 ⌝ }
+{
+    let mut n = 0;
+    let mut i = 0;
+    while i < count {
+        n = store_row(words, tags, dict, table, n, run, 7 * i);
+        i += 1;
+    }
+    n
+}
+
+// Writes what a get answers.
+fn print_got(g: memo::Got) {
+    match g {
+        memo::Got::Hit(e) => {
+            io::write_all(1, b"get ");
+            print(lists::float_bits(e.lo), b" ");
+            print(lists::float_bits(e.hi), b" ");
+            print(e.best, b"\n");
+        }
+        memo::Got::Miss => {
+            io::write_all(1, b"get -\n");
+        }
+    }
+}
+
+// Writes what a get of the key of three words gives; moves 0 to 10 are moves.
+fn look(
+    words: &[u64],
+    tags: &[u8],
+    dict: &[u64],
+    n: usize,
+    table: memo::Table,
+    k0: u64,
+    k1: u64,
+    k2: u64,
+)
+    requires { ⌜ Sized table (now words) (now tags) (now dict) n ⌝ }
+{
+    let g = memo::get(
+        words,
+        tags,
+        dict,
+        n,
+        table,
+        -1000000.0,
+        1000000.0,
+        k0,
+        k1,
+        k2,
+        0,
+        2047,
+        0,
+        0,
+        0,
+    );
+    print_got(g);
+}
+
+// Writes what a get of the key gives that stands at a place of a run.
+fn look_row(
+    words: &[u64],
+    tags: &[u8],
+    dict: &[u64],
+    n: usize,
+    table: memo::Table,
+    run: &[u64],
+    at: usize,
+)
+    requires { ⌜ Sized table (now words) (now tags) (now dict) n × (at < 100) × (at + 7 ≤ length (now run)) ⌝ }
+{
+    look(
+        words,
+        tags,
+        dict,
+        n,
+        table,
+        run[at],
+        run[at + 1],
+        run[at + 2],
+    );
+}
+
+// Writes what a get of each key of a run gives.
+fn looks(
+    words: &[u64],
+    tags: &[u8],
+    dict: &[u64],
+    n: usize,
+    table: memo::Table,
+    run: &[u64],
+    count: usize,
+)
+    requires { ⌜ Sized table (now words) (now tags) (now dict) n × (count ≤ 10) × (7 * count ≤ length (now run)) ⌝ }
+{
+    let mut i = 0;
+    while i < count {
+        look_row(words, tags, dict, n, table, run, 7 * i);
+        i += 1;
+    }
+}
+
+// Writes words, one space between.
+fn print_words(name: &[u8], words: &[u64]) {
+    io::write_all(1, name);
+    let mut i = 0;
+    while i < words.len() {
+        io::write_all(1, b" ");
+        io::print_decimal(1, words[i]);
+        i += 1;
+    }
+    io::write_all(1, b"\n");
+}
+
+fn print_tags(tags: &[u8]) {
+    io::write_all(1, b"tags");
+    let mut i = 0;
+    while i < tags.len() {
+        io::write_all(1, b" ");
+        io::print_decimal(1, wide(tags[i]));
+        i += 1;
+    }
+    io::write_all(1, b"\n");
+}
+
+// Writes the first n words, if there are so many.
+fn print_front(name: &[u8], words: &[u64], n: usize) {
+    if words.len() < n {
+        return;
+    }
+    print_words(name, &words[..n]);
+}
+
+// Writes what a run left, and what a get of each of its keys gives.
+fn shown(
+    words: &[u64],
+    tags: &[u8],
+    dict: &[u64],
+    n: usize,
+    table: memo::Table,
+    run: &[u64],
+    count: usize,
+)
+    requires { ⌜ Sized table (now words) (now tags) (now dict) n × (count ≤ 10) × (7 * count ≤ length (now run)) ⌝ }
+{
+    print_words(b"words", words);
+    print_tags(tags);
+    print_front(b"dictionary", dict, n);
+    looks(words, tags, dict, n, table, run, count);
+}
+
+// A short run on one table, written out whole.
+fn written(
+    words: &mut [u64],
+    tags: &mut [u8],
+    dict: &mut [u64],
+    table: memo::Table,
+    run: &[u64],
+    count: usize,
+)
+    requires { ⌜ Sized table (now words) (now tags) (now dict) 0 × (count ≤ 10) × (7 * count ≤ length (now run)) ⌝ }
+{
+    memo::clear(words, tags);
+    let n = stores(words, tags, dict, table, run, count);
+    shown(words, tags, dict, n, table, run, count);
+}
+
+// The same in memory that is lent.
+fn written_in(
+    words: &mut [u64],
+    tags: &mut [u8],
+    dict: &mut [u64],
+    entries: usize,
+    kw: usize,
+    compact: bool,
+    run: &[u64],
+    count: usize,
+)
+    requires { ⌜ (1 ≤ entries) × (entries ≤ 1024) × (2 ≤ kw) × (kw ≤ 4) × (7168 ≤ length (now words)) × (1024 ≤ length (now tags)) × (255 ≤ length (now dict)) × (count ≤ 10) × (7 * count ≤ length (now run)) ⌝ }
+{
+    let table = memo::new_table(entries, 64 * kw, compact);
+    let total = memo::table_words(table);
+    let rows = memo::rows(table);
+    written(
+        &mut words[..total],
+        &mut tags[..rows],
+        dict,
+        table,
+        run,
+        count,
+    );
+}
+
+// Six stores in one bucket: one is met with its row, and the last replaces the weakest.
+fn six(words: &mut [u64], tags: &mut [u8], dict: &mut [u64])
+    requires { ⌜ (7168 ≤ length (now words)) × (1024 ≤ length (now tags)) × (255 ≤ length (now dict)) ⌝ }
+{
+    let run: [u64; 42] = [
+        1,
+        0,
+        0,
+        0x10_0001,
+        1,
+        0,
+        3,
+        2,
+        0,
+        0,
+        0,
+        0,
+        1,
+        1,
+        3,
+        0,
+        0,
+        0x10_0001,
+        0,
+        256,
+        0,
+        1,
+        0,
+        0,
+        0,
+        1,
+        1,
+        1,
+        4,
+        0,
+        0,
+        1,
+        1,
+        2,
+        9,
+        5,
+        0,
+        0,
+        0x10_0001,
+        0x10_0001,
+        0,
+        2,
+    ];
+    written_in(words, tags, dict, 5, 2, true, &run, 6);
+}
+
+// Ten stores in two buckets: both fill, and the second is used.
+fn ten(words: &mut [u64], tags: &mut [u8], dict: &mut [u64])
+    requires { ⌜ (7168 ≤ length (now words)) × (1024 ≤ length (now tags)) × (255 ≤ length (now dict)) ⌝ }
+{
+    let run: [u64; 70] = [
+        1,
+        1,
+        32,
+        0x10_0004,
+        5,
+        1,
+        2,
+        2,
+        4,
+        64,
+        0x10_0003,
+        5,
+        2,
+        4,
+        3,
+        9,
+        96,
+        0x10_0002,
+        5,
+        3,
+        1,
+        4,
+        16,
+        128,
+        0x10_0001,
+        5,
+        4,
+        3,
+        5,
+        25,
+        160,
+        0,
+        5,
+        5,
+        0,
+        6,
+        36,
+        192,
+        1,
+        5,
+        6,
+        2,
+        7,
+        49,
+        224,
+        2,
+        5,
+        7,
+        4,
+        8,
+        64,
+        256,
+        3,
+        5,
+        8,
+        1,
+        9,
+        81,
+        288,
+        4,
+        5,
+        9,
+        3,
+        10,
+        100,
+        320,
+        5,
+        5,
+        10,
+        0,
+    ];
+    written_in(words, tags, dict, 8, 3, false, &run, 10);
+}
+
+fn put_word(words: &mut [u64], i: usize, w: u64)
+    requires { ⌜ i < length (now words) ⌝ }
+{
+    words[i] = w;
+}
+
+fn put_tag(tags: &mut [u8], i: usize, t: u8)
+    requires { ⌜ i < length (now tags) ⌝ }
+{
+    tags[i] = t;
+}
+
+// A row under key 1 of generation 2, and a dictionary of 0, 2,000,000 and a NaN; no store wrote them.
+fn alter(words: &mut [u64], tags: &mut [u8], dict: &mut [u64], meta: u64)
+    requires { ⌜ (7168 ≤ length (now words)) × (1024 ≤ length (now tags)) × (255 ≤ length (now dict)) ⌝ }
+{
+    memo::clear(words, tags);
+    put_word(words, 0, 1);
+    put_word(words, 2, meta);
+    put_tag(tags, 0, 177);
+    put_word(dict, 0, 0);
+    put_word(dict, 1, 0x413e_8480_0000_0000);
+    put_word(dict, 2, 0x7ff8_0000_0000_0000);
+}
+
+// What a get of key 1 gives where its row has that meta word.
+fn altered(words: &mut [u64], tags: &mut [u8], dict: &mut [u64], meta: u64)
+    requires { ⌜ (7168 ≤ length (now words)) × (1024 ≤ length (now tags)) × (255 ≤ length (now dict)) ⌝ }
+{
+    let table = memo::new_table(5, 128, true);
+    let total = memo::table_words(table);
+    let rows = memo::rows(table);
+    alter(words, tags, dict, meta);
+    look(words, tags, dict, 3, table, 1, 0, 0);
+}
+
+// A bound that is no number between the net's bounds, or whose index lies past the dictionary, reads as the net's own, and move 11, which is none, as none; a row of
+// the counted engine (bit 63) is not found.
+fn odd(words: &mut [u64], tags: &mut [u8], dict: &mut [u64])
+    requires { ⌜ (7168 ≤ length (now words)) × (1024 ≤ length (now tags)) × (255 ≤ length (now dict)) ⌝ }
+{
+    altered(words, tags, dict, 0x0200_0301_0000_000b);
+    altered(words, tags, dict, 0x0200_0002_0000_000a);
+    altered(words, tags, dict, 0x8200_0000_0000_0000);
+}
+
 fn main() {
     let mut words = [0u64; 7168];
     let mut tags = [0u8; 1024];
@@ -358,4 +814,7 @@ fn main() {
         );
         i += 1;
     }
+    six(&mut words, &mut tags, &mut dict);
+    ten(&mut words, &mut tags, &mut dict);
+    odd(&mut words, &mut tags, &mut dict);
 }

@@ -27,7 +27,6 @@ pub mod Dictionary
 pub mod Locate
 pub mod Memo
 pub mod Marking
-pub mod MemoExamples
 -- the search, the drivers and the choice of the key
 pub mod Row
 pub mod Children

@@ -1,12 +1,13 @@
--- Where the memo looks: every row that it comes to is one of its rows, and a row that it finds has the key.
+-- Where the memo looks: every row that it comes to is one of its rows, a row that it finds has the key, and a key whose first bucket has a free row stays in that bucket.
 -- Assumes nothing.
-use mathlib.Core.Path.{_≡_, refl}
-use mathlib.Core.Bool.{Bool, true, false, cond, _&&_}
+use mathlib.Core.Path.{_≡_, refl, sym}
+use mathlib.Core.Bool.{Bool, true, false, true≢false, cond, _&&_}
 use mathlib.Core.List.{List, [], _∷_, List·Memᴰ·head, List·Memᴰ·tail, List·Memᴰ·cases-cons, List·Memᴰ·not-nil, List·Memᴰ·append-cases}
 use mathlib.Core.Logic.{_⊎_, inl, inr}
 use Prim.Native.Nat.{ℕ, zero, suc, _+_, _*_, _/_, _^_, _≤_, _<_}
 use native.Mathlib.Omega.{arith}
 use native.Mathlib.Nat.{mul-comm, suc-mul, mul-le-mul-right}
+use native.Mathlib.Decide.{ℕ-discrete}
 use lib.Dec.{ltb, eqb}
 use lib.ListN.{getD, take}
 use borrow.Author.Tests.{eqb-true}
@@ -80,6 +81,51 @@ module _ (s : Shape) (ways : 0 < s .ways) (buckets : 0 < s .buckets) (m : Memo) 
         go x h true e z = (omega arith, omega arith, holds-match t b e)
         go x h false e true = here x h
         go x h false e false = wider x h
+
+    -- a look that ends at a row
+    abbrev Ends : Look → Type 0
+    Ends (hit i) = Unit {0}
+    Ends (free i) = Unit {0}
+    Ends full = ⊥
+
+    seen-ends : (x y : Bool) (b : ℕ) (r : Look) → (y ≡ true) ⊎ Ends r → Ends (seen x y b r)
+    unfolding seen
+    seen-ends true y b r h = tt
+    seen-ends false true b (hit i) h = tt
+    seen-ends false true b (free i) h = tt
+    seen-ends false true b full h = tt
+    seen-ends false false b r (inl e) = absurd (true≢false (sym e))
+    seen-ends false false b r (inr h) = h
+
+    -- rows of which one is free
+    scan-ends : (t n b j : ℕ) → b ≤ j → j < b + n → getD (m .tags) j 0 ≡ 0 → Ends (scan s m k t n b)
+    unfolding scan
+    scan-ends t zero b j l h e = absurd (omega arith)
+    scan-ends t (suc n) b j l h e = seen-ends (holds s m k t b) (eqb (getD (m .tags) b 0) 0) b (scan s m k t n (suc b)) (go (ℕ-discrete b j) (λ (g : suc b ≤ j). scan-ends t n (suc b) j g (omega arith) e))
+      where
+        go : Dec (b ≡ j) → (suc b ≤ j → Ends (scan s m k t n (suc b))) → (eqb (getD (m .tags) b 0) 0 ≡ true) ⊎ Ends (scan s m k t n (suc b))
+        go (yes z) f = inl (rw (z, e) refl)
+        go (no ne) f = inr (f (omega arith))
+
+    -- a row of the first bucket
+    abbrev pub In-first : Look → Type 0
+    In-first (hit i) = (bucket s (mix k) ≤ i) × (i < bucket s (mix k) + s .ways)
+    In-first (free i) = (bucket s (mix k) ≤ i) × (i < bucket s (mix k) + s .ways)
+    In-first full = ⊥
+
+    -- Where the first bucket has a free row, the memo looks no further (01's mark: storing in the second bucket when the first has a free way).
+    pub locate-first : (j : ℕ) → bucket s (mix k) ≤ j → j < bucket s (mix k) + s .ways → getD (m .tags) j 0 ≡ 0 → In-first (locate s m k)
+    unfolding locate or-look
+    locate-first j l h e =
+        go (scan s m k t (s .ways) (bucket s (mix k))) (scan-within t (s .ways) (bucket s (mix k))) (scan-ends t (s .ways) (bucket s (mix k)) j l h e)
+      where
+        t : ℕ
+        t = tag s (mix k)
+
+        go : (x : Look) → Within t (bucket s (mix k)) (bucket s (mix k) + s .ways) x → Ends x → In-first (or-look x (scan s m k t (s .ways) (bucket s (remix (mix k)))))
+        go (hit i) (a, b, d) o = (a, b)
+        go (free i) w o = w
+        go full w o = absurd o
 
     -- What the memo finds: a row with the key, a free row, or neither.
     abbrev pub Found : Look → Type 0

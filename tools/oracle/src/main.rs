@@ -22,6 +22,7 @@ oracle check-list FILE [reference|rust]  replays it by our reading, the Rust, or
 oracle read-list FILE              what our own reader gives of each sheet of a list
 oracle make-walks BY-HAND          the list of walks on nets
 oracle walk-list FILE              what the Rust gives on it
+oracle memo-list                   what the Rust's memo gives on the runs of memo_check
 OPTIONS: budget=1000 entries=1024 driver=1 filters=1 chain=012 memo";
 
 fn main() {
@@ -51,6 +52,10 @@ fn start() -> i32 {
         ["read-list", file] => printed(file, list::read),
         ["make-walks", file] => printed(file, walk::make),
         ["walk-list", file] => printed(file, walk::replay),
+        ["memo-list"] => {
+            print!("{}", pflow::memo::ours::runs::all());
+            0
+        }
         ["check-list", file, by @ ..] => match std::fs::read(file) {
             Ok(text) => {
                 let text = String::from_utf8_lossy(&text);

@@ -45,6 +45,42 @@ loop-less c = search needs
 loop-again : tie.Need-loop-again Inv-loop μ-loop
 loop-again c = search needs
 
+slice-aggregate-six : tie.Need-slice-aggregate-six Inv-loop μ-loop
+slice-aggregate-six c = search needs
+
+slice-aggregate-six-2 : tie.Need-slice-aggregate-six-2 Inv-loop μ-loop
+slice-aggregate-six-2 c = search needs
+
+slice-aggregate-six-3 : tie.Need-slice-aggregate-six-3 Inv-loop μ-loop
+slice-aggregate-six-3 c = search needs
+
+six-requires : tie.Need-six-requires Inv-loop μ-loop
+six-requires c κs = search needs
+
+slice-aggregate-ten : tie.Need-slice-aggregate-ten Inv-loop μ-loop
+slice-aggregate-ten c = search needs
+
+slice-aggregate-ten-2 : tie.Need-slice-aggregate-ten-2 Inv-loop μ-loop
+slice-aggregate-ten-2 c = search needs
+
+slice-aggregate-ten-3 : tie.Need-slice-aggregate-ten-3 Inv-loop μ-loop
+slice-aggregate-ten-3 c = search needs
+
+ten-requires : tie.Need-ten-requires Inv-loop μ-loop
+ten-requires c κs = search needs
+
+slice-aggregate-odd : tie.Need-slice-aggregate-odd Inv-loop μ-loop
+slice-aggregate-odd c = search needs
+
+slice-aggregate-odd-2 : tie.Need-slice-aggregate-odd-2 Inv-loop μ-loop
+slice-aggregate-odd-2 c = search needs
+
+slice-aggregate-odd-3 : tie.Need-slice-aggregate-odd-3 Inv-loop μ-loop
+slice-aggregate-odd-3 c = search needs
+
+odd-requires : tie.Need-odd-requires Inv-loop μ-loop
+odd-requires c κs = search needs
+
 returns : tie.Need-returns Inv-loop μ-loop
 returns c = search needs
 
@@ -65,4 +101,16 @@ main-spec =
     add-i
     loop-less
     loop-again
+    slice-aggregate-six
+    slice-aggregate-six-2
+    slice-aggregate-six-3
+    six-requires
+    slice-aggregate-ten
+    slice-aggregate-ten-2
+    slice-aggregate-ten-3
+    ten-requires
+    slice-aggregate-odd
+    slice-aggregate-odd-2
+    slice-aggregate-odd-3
+    odd-requires
     returns)
