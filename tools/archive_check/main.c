@@ -88,12 +88,12 @@ static void shown(char *to, size_t n) {
     }
 }
 
-/* 1 if the case holds */
-static int holds(const char *line) {
+/* whether the case holds; what it gave is written where it does not and `say` */
+static int holds(const char *line, int say) {
     uint64_t budget, entries, driver, filters;
     size_t w, t;
     char pieces[LINE + 1], word[LINE + 1], a[LINE + 1], b[LINE + 1], nodes[LINE + 1], hash[LINE + 1];
-    char want[4 * LINE], got[4 * LINE], left[LINE];
+    char want[5 * LINE], got[5 * LINE], left[LINE];
     if (sscanf(line, "c %" SCNu64 " %" SCNu64 " %" SCNu64 " %" SCNu64 " %s %zu %zu %s %s %s %s %s",
                &budget, &entries, &driver, &filters, pieces, &w, &t, word, a, b, nodes, hash) != 12 || w > WORDS || t > TAGS)
         broken("no case", line);
@@ -106,7 +106,7 @@ static int holds(const char *line) {
     shown(got, sizeof got);
     snprintf(left, sizeof left, "%016" PRIx64, memory_hash(w, t));
     if (!strcmp(want, got) && !strcmp(hash, left) && intact(w, t)) return 1;
-    printf("archive: %s\narchive: gave %s %s%s\n", line, got, left, intact(w, t) ? "" : ", and wrote outside of what is lent");
+    if (say) printf("archive: %s\narchive: gave %s %s%s\n", line, got, left, intact(w, t) ? "" : ", and wrote outside of what is lent");
     return 0;
 }
 
@@ -131,7 +131,7 @@ int main(void) {
             if (sscanf(line, "*%" SCNu64 "%n", &times, &at) != 1 || line[at] != ' ') broken("no repetition", line);
             while (times--) add_line(line + at + 1, line);
             break;
-        case 'c': cases++, failed += !holds(line); break;
+        case 'c': cases++, failed += !holds(line, failed < 3); break;
         case 'e':
             if (sscanf(line, "e %" SCNu64 " %" SCNu64 " %" SCNx64, &s, &c, &x) != 3 || s != sheets || c != cases || x != before)
                 broken("the list was cut or changed", line);
