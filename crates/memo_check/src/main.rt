@@ -1,8 +1,7 @@
-// Replays sequences of stores and gets, and writes for each table a line: entries, key words, 1 if compact, words in the dictionary, and a hash.
-// The hash is FNV-1a, 64 bits, of the bytes, low first, of what each get answers (its bounds' bits and best move, or 7), and then of every word and tag of
-// the table and every word of the dictionary. Two short runs are written out whole: words, tags, dictionary, and what a get of each key that was stored
-// gives. The file stdout is what the Rust's memo gives on all of these (oracle memo-list); its last three lines, gets from rows that no store wrote, are
-// document 02's reading.
+// Replays sequences of stores and gets, and writes for each table a line: entries, key words, 1 if compact, words in the dictionary, and a hash: FNV-1a, 64 bits, of the bytes,
+// low first, of what each get answers (its bounds' bits and best move, or 7), and then of every word and tag of the table and every word of the dictionary. Two short runs are
+// written out whole: words, tags, dictionary, and what a get of each key that was stored gives. The file stdout is what the Rust's memo gives on all of these (oracle
+// memo-list); its last three lines, gets from rows that no store wrote, are document 02's reading.
 ghost use Prim.Native.Nat.{_*_, _+_, _^_, _≤_, _<_};
 ghost use lib.ListN.{length};
 ghost use Rattle.memo.specs.Sized.{Measured, Sized};
@@ -377,45 +376,55 @@ fn entries_of(j: usize) -> usize
     }
 }
 
-// The entry of three numbers of a run: its bounds, with 0x10_0000 added for a minus, and its best move.
-fn entry_of(lo: u64, hi: u64, t: u64) -> memo::Entry
-    ensures { λ r. ⌜ r .best < 2 ^ 32 ⌝ }
+// The number that a byte of a run stands for: 0 for `0` and so on, 17 for `A`, 47 for `_`.
+fn number_at(run: &[u8], at: usize) -> u64
+    requires { ⌜ at < length (now run) ⌝ }
+    ensures { λ r. ⌜ r < 48 ⌝ }
 {
-    memo::Entry {
-        lo: value(lo, 16),
-        hi: value(hi, 16),
-        best: best(t),
-    }
+    wide(run[at]) % 48
 }
 
-// A store of a run, seven numbers from at on: three words of the key, the bounds, the best move, the nodes. How many words the dictionary then has.
+// A bound by its number: 0 to 15 as it is, 16 more for a minus.
+fn bound(n: u64) -> f64
+    requires { ⌜ n < 48 ⌝ }
+{
+    value(n % 16 + n / 16 * 0x10_0000, 16)
+}
+
+// The entry of a store of a run, whose seven bytes are three words of the key, the bounds, the best move (`_` for none) and the nodes.
+fn entry_at(run: &[u8], at: usize) -> memo::Entry
+    requires { ⌜ (at < 100) × (at + 7 ≤ length (now run)) ⌝ }
+    ensures { λ r. ⌜ r .best < 2 ^ 32 ⌝ }
+{
+    let lo = bound(number_at(run, at + 3));
+    let hi = bound(number_at(run, at + 4));
+    let best = number_at(run, at + 5);
+    if best == 47 {
+        let none = memo::NO_MOVE;
+        return memo::Entry { lo, hi, best: none };
+    }
+    memo::Entry { lo, hi, best }
+}
+
+// That store. How many words the dictionary then has.
 fn store_row(
     words: &mut [u64],
     tags: &mut [u8],
     dict: &mut [u64],
     table: memo::Table,
     n: usize,
-    run: &[u64],
+    run: &[u8],
     at: usize,
 ) -> usize
     requires { ⌜ Sized table (now words) (now tags) (now dict) n × (at < 100) × (at + 7 ≤ length (now run)) ⌝ }
     ensures { λ r. ⌜ r ≤ 255 ⌝ }
 {
-    let e = entry_of(run[at + 3], run[at + 4], run[at + 5]);
-    store_key(
-        words,
-        tags,
-        dict,
-        table,
-        n,
-        2,
-        run[at],
-        run[at + 1],
-        run[at + 2],
-        0,
-        e,
-        run[at + 6],
-    )
+    let e = entry_at(run, at);
+    let k0 = number_at(run, at);
+    let k1 = number_at(run, at + 1);
+    let k2 = number_at(run, at + 2);
+    let nodes = number_at(run, at + 6);
+    store_key(words, tags, dict, table, n, 2, k0, k1, k2, 0, e, nodes)
 }
 
 // The stores of a run.
@@ -424,7 +433,7 @@ fn stores(
     tags: &mut [u8],
     dict: &mut [u64],
     table: memo::Table,
-    run: &[u64],
+    run: &[u8],
     count: usize,
 ) -> usize
     requires { ⌜ Sized table (now words) (now tags) (now dict) 0 × (count ≤ 10) × (7 * count ≤ length (now run)) ⌝ }
@@ -494,21 +503,15 @@ fn look_row(
     dict: &[u64],
     n: usize,
     table: memo::Table,
-    run: &[u64],
+    run: &[u8],
     at: usize,
 )
     requires { ⌜ Sized table (now words) (now tags) (now dict) n × (at < 100) × (at + 7 ≤ length (now run)) ⌝ }
 {
-    look(
-        words,
-        tags,
-        dict,
-        n,
-        table,
-        run[at],
-        run[at + 1],
-        run[at + 2],
-    );
+    let k0 = number_at(run, at);
+    let k1 = number_at(run, at + 1);
+    let k2 = number_at(run, at + 2);
+    look(words, tags, dict, n, table, k0, k1, k2);
 }
 
 // Writes what a get of each key of a run gives.
@@ -518,7 +521,7 @@ fn looks(
     dict: &[u64],
     n: usize,
     table: memo::Table,
-    run: &[u64],
+    run: &[u8],
     count: usize,
 )
     requires { ⌜ Sized table (now words) (now tags) (now dict) n × (count ≤ 10) × (7 * count ≤ length (now run)) ⌝ }
@@ -568,7 +571,7 @@ fn shown(
     dict: &[u64],
     n: usize,
     table: memo::Table,
-    run: &[u64],
+    run: &[u8],
     count: usize,
 )
     requires { ⌜ Sized table (now words) (now tags) (now dict) n × (count ≤ 10) × (7 * count ≤ length (now run)) ⌝ }
@@ -585,7 +588,7 @@ fn written(
     tags: &mut [u8],
     dict: &mut [u64],
     table: memo::Table,
-    run: &[u64],
+    run: &[u8],
     count: usize,
 )
     requires { ⌜ Sized table (now words) (now tags) (now dict) 0 × (count ≤ 10) × (7 * count ≤ length (now run)) ⌝ }
@@ -603,7 +606,7 @@ fn written_in(
     entries: usize,
     kw: usize,
     compact: bool,
-    run: &[u64],
+    run: &[u8],
     count: usize,
 )
     requires { ⌜ (1 ≤ entries) × (entries ≤ 1024) × (2 ≤ kw) × (kw ≤ 4) × (7168 ≤ length (now words)) × (1024 ≤ length (now tags)) × (255 ≤ length (now dict)) × (count ≤ 10) × (7 * count ≤ length (now run)) ⌝ }
@@ -625,142 +628,22 @@ fn written_in(
 fn six(words: &mut [u64], tags: &mut [u8], dict: &mut [u64])
     requires { ⌜ (7168 ≤ length (now words)) × (1024 ≤ length (now tags)) × (255 ≤ length (now dict)) ⌝ }
 {
-    let run: [u64; 42] = [
-        1,
-        0,
-        0,
-        0x10_0001,
-        1,
-        0,
-        3,
-        2,
-        0,
-        0,
-        0,
-        0,
-        1,
-        1,
-        3,
-        0,
-        0,
-        0x10_0001,
-        0,
-        256,
-        0,
-        1,
-        0,
-        0,
-        0,
-        1,
-        1,
-        1,
-        4,
-        0,
-        0,
-        1,
-        1,
-        2,
-        9,
-        5,
-        0,
-        0,
-        0x10_0001,
-        0x10_0001,
-        0,
-        2,
-    ];
-    written_in(words, tags, dict, 5, 2, true, &run, 6);
+    let run = b"100A1032000011300A0_010001114001129500AA02";
+    written_in(words, tags, dict, 5, 2, true, run, 6);
 }
 
 // Ten stores in two buckets: both fill, and the second is used.
 fn ten(words: &mut [u64], tags: &mut [u8], dict: &mut [u64])
     requires { ⌜ (7168 ≤ length (now words)) × (1024 ≤ length (now tags)) × (255 ≤ length (now dict)) ⌝ }
 {
-    let run: [u64; 70] = [
-        1,
-        1,
-        32,
-        0x10_0004,
-        5,
-        1,
-        2,
-        2,
-        4,
-        64,
-        0x10_0003,
-        5,
-        2,
-        4,
-        3,
-        9,
-        96,
-        0x10_0002,
-        5,
-        3,
-        1,
-        4,
-        16,
-        128,
-        0x10_0001,
-        5,
-        4,
-        3,
-        5,
-        25,
-        160,
-        0,
-        5,
-        5,
-        0,
-        6,
-        36,
-        192,
-        1,
-        5,
-        6,
-        2,
-        7,
-        49,
-        224,
-        2,
-        5,
-        7,
-        4,
-        8,
-        64,
-        256,
-        3,
-        5,
-        8,
-        1,
-        9,
-        81,
-        288,
-        4,
-        5,
-        9,
-        3,
-        10,
-        100,
-        320,
-        5,
-        5,
-        10,
-        0,
-    ];
-    written_in(words, tags, dict, 8, 3, false, &run, 10);
+    let run = b"101D512202C524303B531404A54350505506061562707257480835819094593:0:55:0";
+    written_in(words, tags, dict, 8, 3, false, run, 10);
 }
 
 fn put_word(words: &mut [u64], i: usize, w: u64)
     requires { ⌜ i < length (now words) ⌝ }
 {
     words[i] = w;
-}
-
-fn put_tag(tags: &mut [u8], i: usize, t: u8)
-    requires { ⌜ i < length (now tags) ⌝ }
-{
-    tags[i] = t;
 }
 
 // A row under key 1 of generation 2, and a dictionary of 0, 2,000,000 and a NaN; no store wrote them.
@@ -770,31 +653,23 @@ fn alter(words: &mut [u64], tags: &mut [u8], dict: &mut [u64], meta: u64)
     memo::clear(words, tags);
     put_word(words, 0, 1);
     put_word(words, 2, meta);
-    put_tag(tags, 0, 177);
+    tags[0] = 177;
     put_word(dict, 0, 0);
     put_word(dict, 1, 0x413e_8480_0000_0000);
     put_word(dict, 2, 0x7ff8_0000_0000_0000);
 }
 
-// What a get of key 1 gives where its row has that meta word.
+// What a get of key 1 gives where its row has that meta word. A bound that is no number between the net's bounds, or whose index lies past the dictionary, reads as the net's own,
+// and a move that is none as none; a row of the counted engine (bit 63) is not found.
 fn altered(words: &mut [u64], tags: &mut [u8], dict: &mut [u64], meta: u64)
     requires { ⌜ (7168 ≤ length (now words)) × (1024 ≤ length (now tags)) × (255 ≤ length (now dict)) ⌝ }
 {
     let table = memo::new_table(5, 128, true);
+    // what the table takes of the memory: for the proof alone
     let total = memo::table_words(table);
     let rows = memo::rows(table);
     alter(words, tags, dict, meta);
     look(words, tags, dict, 3, table, 1, 0, 0);
-}
-
-// A bound that is no number between the net's bounds, or whose index lies past the dictionary, reads as the net's own, and move 11, which is none, as none; a row of
-// the counted engine (bit 63) is not found.
-fn odd(words: &mut [u64], tags: &mut [u8], dict: &mut [u64])
-    requires { ⌜ (7168 ≤ length (now words)) × (1024 ≤ length (now tags)) × (255 ≤ length (now dict)) ⌝ }
-{
-    altered(words, tags, dict, 0x0200_0301_0000_000b);
-    altered(words, tags, dict, 0x0200_0002_0000_000a);
-    altered(words, tags, dict, 0x8200_0000_0000_0000);
 }
 
 fn main() {
@@ -816,5 +691,7 @@ fn main() {
     }
     six(&mut words, &mut tags, &mut dict);
     ten(&mut words, &mut tags, &mut dict);
-    odd(&mut words, &mut tags, &mut dict);
+    altered(&mut words, &mut tags, &mut dict, 0x0200_0301_0000_000b);
+    altered(&mut words, &mut tags, &mut dict, 0x0200_0002_0000_000a);
+    altered(&mut words, &mut tags, &mut dict, 0x8200_0000_0000_0000);
 }

@@ -69,17 +69,41 @@ slice-aggregate-ten-3 c = search needs
 ten-requires : tie.Need-ten-requires Inv-loop μ-loop
 ten-requires c κs = search needs
 
-slice-aggregate-odd : tie.Need-slice-aggregate-odd Inv-loop μ-loop
-slice-aggregate-odd c = search needs
+slice-aggregate-altered : tie.Need-slice-aggregate-altered Inv-loop μ-loop
+slice-aggregate-altered c = search needs
 
-slice-aggregate-odd-2 : tie.Need-slice-aggregate-odd-2 Inv-loop μ-loop
-slice-aggregate-odd-2 c = search needs
+slice-aggregate-altered-2 : tie.Need-slice-aggregate-altered-2 Inv-loop μ-loop
+slice-aggregate-altered-2 c = search needs
 
-slice-aggregate-odd-3 : tie.Need-slice-aggregate-odd-3 Inv-loop μ-loop
-slice-aggregate-odd-3 c = search needs
+slice-aggregate-altered-3 : tie.Need-slice-aggregate-altered-3 Inv-loop μ-loop
+slice-aggregate-altered-3 c = search needs
 
-odd-requires : tie.Need-odd-requires Inv-loop μ-loop
-odd-requires c κs = search needs
+altered-requires : tie.Need-altered-requires Inv-loop μ-loop
+altered-requires c κs = search needs
+
+slice-aggregate-altered-4 : tie.Need-slice-aggregate-altered-4 Inv-loop μ-loop
+slice-aggregate-altered-4 c = search needs
+
+slice-aggregate-altered-5 : tie.Need-slice-aggregate-altered-5 Inv-loop μ-loop
+slice-aggregate-altered-5 c = search needs
+
+slice-aggregate-altered-6 : tie.Need-slice-aggregate-altered-6 Inv-loop μ-loop
+slice-aggregate-altered-6 c = search needs
+
+altered-requires-2 : tie.Need-altered-requires-2 Inv-loop μ-loop
+altered-requires-2 c κs = search needs
+
+slice-aggregate-altered-7 : tie.Need-slice-aggregate-altered-7 Inv-loop μ-loop
+slice-aggregate-altered-7 c = search needs
+
+slice-aggregate-altered-8 : tie.Need-slice-aggregate-altered-8 Inv-loop μ-loop
+slice-aggregate-altered-8 c = search needs
+
+slice-aggregate-altered-9 : tie.Need-slice-aggregate-altered-9 Inv-loop μ-loop
+slice-aggregate-altered-9 c = search needs
+
+altered-requires-3 : tie.Need-altered-requires-3 Inv-loop μ-loop
+altered-requires-3 c κs = search needs
 
 returns : tie.Need-returns Inv-loop μ-loop
 returns c = search needs
@@ -109,8 +133,16 @@ main-spec =
     slice-aggregate-ten-2
     slice-aggregate-ten-3
     ten-requires
-    slice-aggregate-odd
-    slice-aggregate-odd-2
-    slice-aggregate-odd-3
-    odd-requires
+    slice-aggregate-altered
+    slice-aggregate-altered-2
+    slice-aggregate-altered-3
+    altered-requires
+    slice-aggregate-altered-4
+    slice-aggregate-altered-5
+    slice-aggregate-altered-6
+    altered-requires-2
+    slice-aggregate-altered-7
+    slice-aggregate-altered-8
+    slice-aggregate-altered-9
+    altered-requires-3
     returns)
