@@ -16,11 +16,10 @@ use Rattle.rules.specs.Limits.{max-moves}
 use Rattle.rules.specs.Game.{Game, Side, opp, Played, to, stopped, eqv, _∈_, leq}
 use Rattle.rules.specs.Minimax.{pick}
 use Rattle.rules.specs.Filter.{Verdict, keep, drop, refuse, wins}
-use Rattle.rules.specs.Search.{Interval, Entry, Child, Best, Outcome, value, spent, refused, edge, window, Memory, Policy, Settings, State, Run, Search, follow, then, tick, Recalled, known, unknown, recall, Expanded, halted, won, children, add, expanded, played, expand, sifted, sift, filtered, improve, ended, row, finish, searched, turned, listed, opened, node, passes, budgeted, counted, too-deep, alpha-beta}
+use Rattle.rules.specs.Search.{Interval, Entry, Child, Best, Outcome, value, spent, refused, edge, window, Memory, Policy, Settings, State, Run, Search, follow, then, tick, Recalled, known, unknown, recall, Expanded, halted, won, children, add, expanded, played, expand, sifted, sift, filtered, improve, ended, row, finish, searched, turned, listed, opened, node, passes, budgeted, ticked, counted, too-deep, alpha-beta}
 use Rattle.rules.specs.Drivers.{Scale, Driver, single, scout, mtd, rung, onward, sided, begun, stepped, scout-from, mtd-next, mtd-test, mtd-from, mtd-begin, run}
-use Rattle.rules.specs.Choose.{no-move, child-run, matched, played-value, check, remembered, root, started, chosen}
+use Rattle.rules.specs.Choose.{no-move, child-run, matched, played-value, check, remembered, root, started, chosen, choose}
 use Rattle.theory.specs.Causes.{here, by, Cause, mixed, wide, stops, deep}
-use Rattle.theory.specs.Counted.{choose-counted}
 use Rattle.theory.proofs.Children.{Prepared, expand-prepared, filtered-prepared}
 use Rattle.theory.proofs.Choose.{remembered-in}
 use Rattle.theory.proofs.Laws.{Orderly, Lawful}
@@ -254,10 +253,10 @@ module _ (G : Game) (S : Settings G) (M : Lawful G S) where
           go false b (t ∷ l) e = side t l e (mover p) refl
 
   counted-blamed : (b : Option ℕ) (d : ℕ) (f : Search G S) → BlamedSearch G S d f → BlamedSearch G S d (counted G S b f)
-  unfolding counted budgeted
+  unfolding counted ticked budgeted
   counted-blamed b d f h p w st = go (passes G S b (suc (st .nodes)))
     where
-      go : (x : Bool) → Blames (Cause G d p) (budgeted G S x f p w (tick G S st) .0)
+      go : (x : Bool) → Blames (Cause G d p) (budgeted G S x (f p w) (tick G S st) .0)
       go true = tt
       go false = h p w (tick G S st)
 
@@ -267,6 +266,6 @@ module _ (G : Game) (S : Settings G) (M : Lawful G S) where
   alpha-beta-blamed b (suc d) = counted-blamed b (suc d) (node G S (alpha-beta G S b d)) (λ p w st. opened-blamed d p (alpha-beta G S b d) (alpha-beta-blamed b d) (recall G S w (get (st .memo) p)) st)
 
   -- Choosing refuses only with a cause in play from the position, where a line of `d` moves is too long.
-  pub choose-counted-blamed : (δ : Driver G) (b : Option ℕ) (d : ℕ) (p : Pos) → Blamed G S (Cause G d p) (choose-counted G S δ b d p)
-  unfolding choose-counted
-  choose-counted-blamed δ b d p = chosen-blamed G S d (run G S δ (alpha-beta G S b d)) (λ q. run-blamed G S d (alpha-beta G S b d) (alpha-beta-blamed b d) q δ) p
+  pub choose-blamed : (δ : Driver G) (b : Option ℕ) (d : ℕ) (p : Pos) → Blamed G S (Cause G d p) (choose G S δ b d p)
+  unfolding choose
+  choose-blamed δ b d p = chosen-blamed G S d (run G S δ (alpha-beta G S b d)) (λ q. run-blamed G S d (alpha-beta G S b d) (alpha-beta-blamed b d) q δ) p

@@ -11,9 +11,8 @@ use Rattle.rules.specs.Game.{Game, Side, max, Played, to, stopped, _∈_, eqv}
 use Rattle.rules.specs.Minimax.{pick}
 use Rattle.rules.specs.Search.{Entry, Memory, Settings, State, Run, alpha-beta}
 use Rattle.rules.specs.Drivers.{Driver, run}
-use Rattle.rules.specs.Choose.{Choice, no-move, no-child, key, child-run, matched, played-value, check, if-in, known-move, remembered, root, started, chosen}
+use Rattle.rules.specs.Choose.{Choice, no-move, no-child, key, child-run, matched, played-value, check, if-in, known-move, remembered, root, started, chosen, choose}
 use Rattle.theory.specs.Promise.{Leads, IsKey}
-use Rattle.theory.specs.Counted.{choose-counted}
 use Rattle.theory.specs.Forces.{final, Exact}
 use Rattle.theory.proofs.Order.{le-refl, le-antisym, pick-elim}
 use Rattle.theory.proofs.Forces.{BestOf, best-one, best-more, best-exact, exact-unique, not-final}
@@ -162,7 +161,7 @@ module _ (G : Game) (S : Settings G) (M : Lawful G S) where
             either t (inr i) = i
 
   -- THEOREM 4 (choosing), with no premise on play.
-  pub choose-counted-sound : (δ : Driver G) → Driven G δ → (b : Option ℕ) (d : ℕ) (p : Pos) (st : State S) → Real p → Sound G S M (st .memo) →
-      Fine G S M (Chosen G p) (choose-counted G S δ b d p st)
-  unfolding choose-counted
-  choose-counted-sound δ t b d p st real sound = chosen-sound (run G S δ (alpha-beta G S b d)) (λ q k. run-exact G S M q k δ t (alpha-beta G S b d) (alpha-beta-sound G S M b d)) p real st sound
+  pub choose-sound : (δ : Driver G) → Driven G δ → (b : Option ℕ) (d : ℕ) (p : Pos) (st : State S) → Real p → Sound G S M (st .memo) →
+      Fine G S M (Chosen G p) (choose G S δ b d p st)
+  unfolding choose
+  choose-sound δ t b d p st real sound = chosen-sound (run G S δ (alpha-beta G S b d)) (λ q k. run-exact G S M q k δ t (alpha-beta G S b d) (alpha-beta-sound G S M b d)) p real st sound

@@ -11,8 +11,8 @@ use borrow.Author.Tests.{ltb-true, ltb-false, lt-ltb, le-ltb}
 use Rattle.rules.specs.Game.{Game, Values, Side, Played, to, stopped, eqv}
 use Rattle.rules.specs.Search.{Entry, Outcome, value, spent, refused, Memory, Policy, Settings, State, Run, follow, then, passes, alpha-beta}
 use Rattle.rules.specs.Drivers.{Driver, single, scout, mtd, run}
-use Rattle.rules.specs.Choose.{no-move, left, remembered, matched, child-run, played-value, check, root, started, chosen, recount, anew, choose}
-use Rattle.theory.specs.Counted.{choose-counted}
+use Rattle.rules.specs.Choose.{no-move, remembered, matched, child-run, played-value, check, root, started, chosen, choose}
+use Rattle.theory.specs.Counted.{left, recount, anew, choose-anew}
 use Rattle.theory.proofs.Simulation.{Both, Agree, Entries, InStep, Closed, Ends, alpha-beta-steps}
 use Rattle.theory.proofs.InStep.{Drivers, run-steps}
 use Rattle.theory.proofs.Answer.{Gives}
@@ -186,7 +186,7 @@ module _ (G : Game) (S : Settings G) where
       }) _ (moves p)
 
   -- COUNTING: a run at a time, or one count throughout.
-  pub choose-is-counted : (δ : Driver G) (b : Option ℕ) (d : ℕ) (p : Pos) (st : State S) → Fits b (st .nodes) → choose G S δ b d p st ≡ choose-counted G S δ b d p st
-  unfolding choose choose-counted
-  choose-is-counted δ b d p st h =
+  pub choose-anew-same : (δ : Driver G) (b : Option ℕ) (d : ℕ) (p : Pos) (st : State S) → Fits b (st .nodes) → choose-anew G S δ b d p st ≡ choose G S δ b d p st
+  unfolding choose-anew choose
+  choose-anew-same δ b d p st h =
       chosen-level b _ _ (λ q. record { equal = anew-same δ b d q; fits = run-fits δ b d b q }) p .equal st h

@@ -10,8 +10,7 @@ use lib.Dec.{ltb}
 use Rattle.rules.specs.Game.{Game, Values, valued, Side, max, min, Played, to, stopped, eqv}
 use Rattle.rules.specs.Search.{Interval, Entry, window, Memory, Policy, Settings, Run, Search, passes}
 use Rattle.rules.specs.Drivers.{Scale, Driver, single, scout, mtd, rung, onward, point, below, upto, sided, begun, stepped, mtd-next, scout-from, mtd-test, mtd-from, mtd-begin, run}
-use Rattle.rules.specs.Choose.{Choice, no-move, no-child, key, known-move, remembered, matched, child-run, played-value, check, root, started, chosen}
-use Rattle.theory.specs.Counted.{choose-counted}
+use Rattle.rules.specs.Choose.{Choice, no-move, no-child, key, known-move, remembered, matched, child-run, played-value, check, root, started, chosen, choose}
 use Rattle.theory.proofs.Simulation.{Both, Intervals, Entries, window-rel, Related, InStep, Closed, S, T, Ends, Steps, StepSearch, steps-then, eqv-same, steps-value, Budgets, alpha-beta-steps}
 
 module _ (G : Game) (W : Values (G .Pos)) (Rel : G .Value → W .Value → Type 0) where
@@ -223,8 +222,8 @@ module _ (G : Game) (W : Values (G .Pos)) (μ : Memory G) (ν : Memory (valued G
   same-budget none k = refl
   same-budget (some b) k = let e : 0 + k ≡ k = omega arith in ap (ltb b) e
 
-  pub choose-counted-steps : (δ : Driver G) (ε : Driver (valued G W)) → Drivers G W Rel δ ε → (b : Option ℕ) (d : ℕ) (p : G .Pos) → Real p →
-      Steps G W μ ν π Rel Alike 0 (Choices G W Rel) (choose-counted G (S G W μ ν π Rel Alike) δ b d p) (choose-counted (valued G W) (T G W μ ν π Rel Alike) ε b d p)
-  unfolding choose-counted
-  choose-counted-steps δ ε h b d p real =
+  pub choose-steps : (δ : Driver G) (ε : Driver (valued G W)) → Drivers G W Rel δ ε → (b : Option ℕ) (d : ℕ) (p : G .Pos) → Real p →
+      Steps G W μ ν π Rel Alike 0 (Choices G W Rel) (choose G (S G W μ ν π Rel Alike) δ b d p) (choose (valued G W) (T G W μ ν π Rel Alike) ε b d p)
+  unfolding choose
+  choose-steps δ ε h b d p real =
       chosen-steps G W μ ν π Rel Alike Real I K 0 _ _ (λ q r. run-steps G W μ ν π Rel Alike Real I K 0 δ ε h _ _ (alpha-beta-steps G W μ ν π Rel Alike Real I K 0 b b (same-budget b) d) q r) p real

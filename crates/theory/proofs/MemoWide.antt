@@ -13,9 +13,8 @@ use Rattle.rules.specs.Memo.{Shape, Memo, cleared, Code, memory, locate, slot, 
 use Rattle.rules.specs.Drivers.{Driver}
 use Rattle.rules.specs.Choose.{choose}
 use Rattle.theory.proofs.Answer.{Sound}
-use Rattle.theory.proofs.Counting.{Fits}
 use Rattle.theory.proofs.Memo.{Fitted, memo-tabled, cleared-sound}
-use Rattle.theory.proofs.Theorems.{choose-sound}
+use Rattle.theory.proofs.Choose.{choose-sound}
 use Rattle.theory.proofs.Laws.{Rules, Tabled, Orderly, Lawful, Driven}
 
 module _ (s : Shape) (G : Game) (C : Code (G .Value)) (key : G .Pos → List ℕ) (Ok : G .Value → Type 0) (Real : G .Pos → Type 0) (F : Fitted s G C key Ok Real) (R : Rules G)
@@ -54,6 +53,6 @@ module _ (s : Shape) (G : Game) (C : Code (G .Value)) (key : G .Pos → List ℕ
     start-sound : Sound G settings law (cleared first-generation s)
     start-sound = let h = cleared-sound s G C key Ok Real F R keeps π o in record { well = (h .well, refl); rows = h .rows }
 
-    pub choose-no-dict : (δ : Driver G) → Driven G δ → (b : Option ℕ) (d : ℕ) (p : G .Pos) (st : State settings) → Real p → st .memo ≡ cleared first-generation s → Fits b (st .nodes) →
+    pub choose-no-dict : (δ : Driver G) → Driven G δ → (b : Option ℕ) (d : ℕ) (p : G .Pos) (st : State settings) → Real p → st .memo ≡ cleared first-generation s →
         choose G settings δ b d p st .1 .memo .dict ≡ []
-    choose-no-dict δ t b d p st r e f = choose-sound G settings law δ t b d p st r (rw e start-sound) f .sound .well .1
+    choose-no-dict δ t b d p st r e = choose-sound G settings law δ t b d p st r (rw e start-sound) .sound .well .1

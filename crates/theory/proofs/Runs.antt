@@ -9,8 +9,7 @@ use lib.Dec.{ltb}
 use Rattle.rules.specs.Game.{Game, Side, Played, to, stopped, eqv}
 use Rattle.rules.specs.Search.{Entry, window, Memory, Settings, Run, Search, alpha-beta}
 use Rattle.rules.specs.Drivers.{Scale, Driver, single, scout, mtd, rung, sided, begun, stepped, scout-from, mtd-next, mtd-test, mtd-from, mtd-begin, run}
-use Rattle.rules.specs.Choose.{no-move, child-run, matched, played-value, check, remembered, root, started, chosen}
-use Rattle.theory.specs.Counted.{choose-counted}
+use Rattle.rules.specs.Choose.{no-move, child-run, matched, played-value, check, remembered, root, started, chosen, choose}
 use Rattle.theory.proofs.Budget.{Budgeted, budgeted-pure, budgeted-then, BudgetedSearch, alpha-beta-budgeted}
 
 -- The budget.
@@ -109,6 +108,6 @@ module _ (G : Game) (S : Settings G) (B : ℕ) where
     }) _ (moves p)
 
   -- THEOREM 2 for the whole call: N is the count that it reaches with no budget.
-  pub choose-counted-budgeted : (δ : Driver G) (d : ℕ) (p : Pos) → Budgeted G S B (choose-counted G S δ none d p) (choose-counted G S δ (some B) d p)
-  unfolding choose-counted
-  choose-counted-budgeted δ d p = chosen-budgeted _ _ (λ q. run-budgeted (alpha-beta G S none d) (alpha-beta G S (some B) d) (alpha-beta-budgeted G S B d) q δ) p
+  pub choose-budgeted : (δ : Driver G) (d : ℕ) (p : Pos) → Budgeted G S B (choose G S δ none d p) (choose G S δ (some B) d p)
+  unfolding choose
+  choose-budgeted δ d p = chosen-budgeted _ _ (λ q. run-budgeted (alpha-beta G S none d) (alpha-beta G S (some B) d) (alpha-beta-budgeted G S B d) q δ) p

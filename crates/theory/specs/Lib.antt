@@ -1,4 +1,4 @@
--- Notions of the proofs: what a side can force, what the public contract promises of an answer, the premises on play, the causes of refusals and their conditions in 01's words, choosing with one count,
+-- Notions of the proofs: what a side can force, what the public contract promises of an answer, the premises on play, the causes of refusals and their conditions in 01's words, choosing as 01 counts it,
 -- key words of markings.
 -- Assumes nothing.
 pub mod Forces
