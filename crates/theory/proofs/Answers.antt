@@ -2,23 +2,22 @@
 -- is met in play; and what each answer leaves of the lent memory (01, "Refused from the input", "Refused from the state").
 -- Assumes nothing.
 use mathlib.Core.Path.{_≡_, refl, sym, ap, _∙_}
-use mathlib.Core.Bool.{true≢false}
 use mathlib.Core.Option.{some}
 use mathlib.Core.Logic.{inl, inr}
 use mathlib.Core.List.{List}
-use Prim.Native.Nat.{ℕ, _+_, _≤_, _<_}
+use Prim.Native.Nat.{ℕ, _≤_}
 use native.Mathlib.Omega.{arith}
 use lib.Ieee.{Float}
 use Rattle.rules.specs.declared.Refusal.{Refusal}
 use Rattle.rules.specs.declared.Answer.{Answer}
-use Rattle.rules.specs.declared.Answer.the-variants.{Exact, None, Spent, Refused}
+use Rattle.rules.specs.declared.Answer.the-variants.{Refused}
 use Rattle.rules.specs.Net.{Net}
 use Rattle.rules.specs.Sheet.{accepted, unread, read-sheet}
 use Rattle.rules.specs.Play.{Marking, start}
-use Rattle.rules.specs.Search.{Outcome, value, spent, refused, State}
+use Rattle.rules.specs.Search.{Outcome, value, spent, refused}
 use Rattle.rules.specs.Choose.{Choice, no-move, no-child, key}
 use Rattle.rules.specs.Answer.{refusal-number}
-use Rattle.rules.specs.Call.{Request, Result, untouched, settings-of, first-state, choice, Accepted, ended, call}
+use Rattle.rules.specs.Call.{Request, Result, untouched, first-state, Searched, choice, Accepted, answer-of, leaving, ended, call}
 use Rattle.theory.specs.Conditions.{Condition, mixed, move-spills, auto-spills, endless, wide, deep}
 use Rattle.theory.proofs.Inputs.{First, refused-first, settings, no-goals, memory, unsettled-start}
 use Rattle.theory.proofs.Refusals.{unread-early, Because, by-sheet, by-input, by-state, Went, unread-sheet, bad-input, was-accepted, went, call-unread, call-input, call-searched, refused-because, because-refused}
@@ -44,7 +43,7 @@ condition-number (deep l d) = omega arith
 module _ (r : Request) where
   -- a refusal from the state has a number from 8 on, and its condition is met in play from the start
   state-condition : {net : Net} {x : Refusal} {l n : ℕ} → Accepted r net → call r .answer ≡ Refused x l n → Condition net (start net) x
-  state-condition {net} {x} {l} {n} A e = let means : Means r net (Refused x l n) = rw e at (answer-means A) in means .3
+  state-condition {net} {x} {l} {n} A e = let means : Means net (r .options) (start net) (first-state net (r .options)) (r .budget) (Refused x l n) = rw e at (answer-means A) in means .3
 
   -- 1 TO 3, with its line: exactly where reading gives it.
   pub refused-reading : (x : Refusal) (l n : ℕ) → refusal-number x ≤ 3 → call r .answer ≡ Refused x l n → (read-sheet (r .sheet) ≡ unread x l) × (n ≡ 0)
@@ -90,14 +89,14 @@ module _ (r : Request) where
       go (was-accepted net A) = absurd (omega (arith, condition-number (state-condition A e)))
 
 -- After any other answer the memo's part is zero, or holds what was stored last, and what lies behind it is as it was.
-pub memory-left : (r : Request) (net : Net) → Accepted r net → Leaves net r (call r .answer) (call r .words) (call r .tags)
-unfolding ended
+pub memory-left : (r : Request) (net : Net) → Accepted r net → Leaves net r (start net) (first-state net (r .options)) (call r .answer) (call r .words) (call r .tags)
+unfolding ended leaving answer-of
 memory-left r net A = rw (call-searched r net A) (go (end .0))
   where
-    end : Outcome (Choice Float) × State (settings-of net r)
-    end = choice net r (some (r .budget)) (start net) (first-state net r)
+    end : Searched net (r .options)
+    end = choice net (r .options) (some (r .budget)) (start net) (first-state net (r .options))
 
-    go : (o : Outcome (Choice Float)) → Leaves net r (ended net r o (end .1) .answer) (ended net r o (end .1) .words) (ended net r o (end .1) .tags)
+    go : (o : Outcome (Choice Float)) → Leaves net r (start net) (first-state net (r .options)) (ended net r o (end .1) .answer) (ended net r o (end .1) .words) (ended net r o (end .1) .tags)
     go (value no-move) = record { words-left = refl; tags-left = refl }
     go (value no-child) = record { words-left = refl; tags-left = refl }
     go (value (key t v)) = record { words-left = refl; tags-left = refl }

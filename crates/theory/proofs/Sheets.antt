@@ -21,7 +21,7 @@ use Rattle.rules.specs.Minimax.{Worth, pick, both, value-after, best, level, mi
 use Rattle.rules.specs.Premises.{Premises}
 use Rattle.rules.specs.NetGame.{int-game, levels}
 use Rattle.rules.specs.Rewards.{entered, with-reward, subset-sums, values}
-use Rattle.rules.specs.Call.{Request, settings-fit, goals-missing, memory-fits, unsettled, input-refusal, Accepted, call}
+use Rattle.rules.specs.Call.{Request, asked, first-state, settings-fit, goals-missing, memory-fits, unsettled, input-refusal, Accepted, call}
 use Rattle.rules.specs.Cases.{first-sheet, two-plies}
 use Rattle.theory.proofs.Fits.{fits, fits-premises}
 use Rattle.theory.proofs.Minimax.{played-worth, worth-unique, minimax-worth}
@@ -42,8 +42,7 @@ pub record Solved (net : Net) : Type 0 where
 
 -- the settings of `keymove`, with memory enough for 1,024 entries of these nets
 abbrev pub request : List ℕ → Request
-request sheet =
-    record { sheet = sheet; budget = 1000; entries = 1024; driver = 1; filters = 1; chain = 0 ∷ 1 ∷ 2 ∷ []; words = replicate 3072 0; tags = replicate 1024 0 }
+request sheet = asked sheet 1000 1024 1 1 (0 ∷ 1 ∷ 2 ∷ []) (replicate 3072 0) (replicate 1024 0)
 
 pub record Known (sheet : List ℕ) : Type 0 where
   pub taken : (net : Net) × Accepted (request sheet) net
@@ -98,7 +97,8 @@ pub two-plies-known : Known two-plies
 two-plies-known = known two-plies (computed .1)
 
 -- Demand 3 for every accepted call on them, whatever its settings: the value is 1.
-pub known-demand-3 : {sheet : List ℕ} → Known sheet → (r : Request) (net : Net) → r .sheet ≡ sheet → Accepted r net → Demand3 r net (call r .answer) × ((a : MinimaxAnswer r net (call r .answer)) → a .number ≡ pos 1)
+pub known-demand-3 : {sheet : List ℕ} → Known sheet → (r : Request) (net : Net) → r .sheet ≡ sheet → Accepted r net →
+    Demand3 net (r .options) (start net) (first-state net (r .options)) (r .budget) (call r .answer) × ((a : MinimaxAnswer net (r .options) (start net) (first-state net (r .options)) (call r .answer)) → a .number ≡ pos 1)
 known-demand-3 k r net e A =
     let s = k .solved net (rw e at (A .readable)) in
     (demand-3 A (s .premises) (λ none-there. List·Memᴰ·not-nil (rw none-there at (s .key))), λ a. worth-unique (int-game net) (net-rules net) (a .start-worth) (s .start-worth))
