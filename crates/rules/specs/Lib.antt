@@ -6,9 +6,11 @@ pub mod Sheet
 pub mod Game
 pub mod Play
 pub mod Minimax
+pub mod Forces
 pub mod Rewards
 pub mod Goals
 pub mod Premises
+pub mod Conditions
 pub mod Filter
 pub mod Sort
 pub mod Search
@@ -20,5 +22,6 @@ pub mod Order
 pub mod NetGame
 pub mod Answer
 pub mod Call
+pub mod Promise
 pub mod Keymove
 pub mod Cases

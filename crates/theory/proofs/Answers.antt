@@ -20,10 +20,10 @@ use Rattle.rules.specs.Search.{Outcome, value, spent, refused}
 use Rattle.rules.specs.Choose.{Choice, no-move, no-child, key}
 use Rattle.rules.specs.Answer.{refusal-number, early}
 use Rattle.rules.specs.Call.{Request, Accepted, first-state, Searched, choice, answer-of, Result, untouched, leaving, ended, call}
-use Rattle.theory.specs.Conditions.{Condition, mixed, move-spills, auto-spills, endless, wide, deep}
+use Rattle.rules.specs.Conditions.{Condition, mixed, move-spills, auto-spills, endless, wide, deep}
 use Rattle.theory.proofs.Inputs.{First}
 use Rattle.theory.proofs.Refusals.{unread-early, first-number, Because, by-sheet, by-input, by-state, call-searched, accepted-or-refused, refused-because, because-refused}
-use Rattle.theory.specs.Promise.{Means, Either, Leaves}
+use Rattle.rules.specs.Promise.{Means, Either, Leaves}
 use Rattle.theory.proofs.Demand3.{answer-means}
 
 -- the numbers of the conditions met in play
@@ -46,7 +46,7 @@ condition-late (deep l d) = refl
 
 module _ (r : Request) where
   -- a refusal from the state has a number from 8 on, and its condition is met in play from the start
-  state-condition : {net : Net} {q : Marking} {x : Refusal} {l n : ℕ} → Accepted r net q → call r .answer ≡ Refused x l n → Condition net q x
+  pub state-condition : {net : Net} {q : Marking} {x : Refusal} {l n : ℕ} → Accepted r net q → call r .answer ≡ Refused x l n → Condition net q x
   state-condition {net} {q} {x} {l} {n} A e = let means : Means net (r .options) q (first-state net (r .options)) (r .budget) (Refused x l n) = rw e at (answer-means A) in means .3
 
   -- 1 TO 3, with its line: exactly where reading gives it.

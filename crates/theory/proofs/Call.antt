@@ -11,8 +11,8 @@ use Rattle.rules.specs.Minimax.{Worth}
 use Rattle.rules.specs.Search.{Outcome, value, spent, refused, Memory, Settings, State}
 use Rattle.rules.specs.Drivers.{Driver}
 use Rattle.rules.specs.Choose.{Choice, no-move, no-child, key, choose}
-use Rattle.theory.specs.Promise.{Leads, IsKey}
-use Rattle.theory.specs.Forces.{Exact}
+use Rattle.rules.specs.Promise.{Leads, IsKey}
+use Rattle.rules.specs.Forces.{Exact}
 use Rattle.theory.specs.Causes.{Cause}
 use Rattle.theory.specs.Regular.{Turn, Regular}
 use Rattle.theory.proofs.Forces.{exact-unique}

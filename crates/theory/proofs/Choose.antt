@@ -12,8 +12,8 @@ use Rattle.rules.specs.Minimax.{pick}
 use Rattle.rules.specs.Search.{Entry, Memory, Settings, State, Run, alpha-beta}
 use Rattle.rules.specs.Drivers.{Driver, run}
 use Rattle.rules.specs.Choose.{Choice, no-move, no-child, key, child-run, matched, played-value, check, if-in, known-move, remembered, root, started, chosen, choose}
-use Rattle.theory.specs.Promise.{Leads, IsKey}
-use Rattle.theory.specs.Forces.{final, Exact}
+use Rattle.rules.specs.Promise.{Leads, IsKey}
+use Rattle.rules.specs.Forces.{final, Exact}
 use Rattle.theory.proofs.Order.{le-refl, le-antisym, pick-elim}
 use Rattle.theory.proofs.Forces.{BestOf, best-one, best-more, best-exact, exact-unique, not-final}
 use Rattle.theory.proofs.Answer.{Sound, Fine, fine-map, fine-then}

@@ -28,7 +28,7 @@ use Rattle.theory.proofs.Fits.{fits, fits-premises}
 use Rattle.theory.proofs.Minimax.{played-worth, worth-unique, minimax-worth}
 use Rattle.theory.proofs.Inputs.{none-accepted, starts-settled}
 use Rattle.theory.proofs.NetRules.{net-rules}
-use Rattle.theory.specs.Promise.{MinimaxAnswer, Demand3}
+use Rattle.rules.specs.Promise.{MinimaxAnswer, Demand3}
 use Rattle.theory.proofs.Demand3.{demand-3}
 
 -- What is claimed of a net.

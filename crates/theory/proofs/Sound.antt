@@ -9,7 +9,8 @@ use mathlib.Core.Logic.{_⊎_, inl, inr}
 use Prim.Native.Nat.{ℕ, zero, suc}
 use Rattle.rules.specs.Game.{Game, Side, max, min, opp, _∈_, Le, worst, eqv}
 use Rattle.rules.specs.Search.{Interval, Entry, Child, Best, meet, edge, Memory, Policy, Settings, State, Search, tick, recalled, recall, Expanded, halted, won, children, proved, finish, searched, turned, listed, opened, node, passes, budgeted, ticked, counted, too-deep, alpha-beta}
-use Rattle.theory.specs.Forces.{Lt, End, bound, scored, Forces, floor, final, own, Exact}
+use Rattle.rules.specs.Forces.{Forces, floor, final, own, Exact}
+use Rattle.theory.specs.Ends.{Lt, End, bound, scored}
 use Rattle.theory.proofs.Order.{le-refl, le-antisym, lt-not-le, le-lt-trans, flip-lt}
 use Rattle.theory.proofs.Forces.{consistent, exact-of}
 use Rattle.theory.proofs.Answer.{Certified, Answer, Open, end-inside, flat-forces, open-edge, certified-exact, answer-of, answer-exact, answer-meet, open-meet, Sound, get-certified, store-sound, Fine, fine-map, fine-then, SoundSearch}
