@@ -12,11 +12,11 @@ use Rattle.rules.specs.Memo.{Shape, Memo, Code, memory, locate, slot, old-work,
 use Rattle.rules.specs.Drivers.{Driver}
 use Rattle.rules.specs.Choose.{choose}
 use Rattle.theory.proofs.Answer.{Sound}
-use Rattle.theory.proofs.Memo.{Fitted, memo-tabled}
+use Rattle.theory.proofs.Memo.{Fitted, Telling, memo-tabled}
 use Rattle.theory.proofs.Choose.{choose-sound}
 use Rattle.theory.proofs.Laws.{Rules, Tabled, Orderly, Lawful, Driven}
 
-module _ (s : Shape) (G : Game) (C : Code (G .Value)) (key : G .Pos → List ℕ) (Ok : G .Value → Type 0) (Real : G .Pos → Type 0) (F : Fitted s G C key Ok Real) (R : Rules G)
+module _ (s : Shape) (G : Game) (C : Code (G .Value)) (key : G .Pos → List ℕ) (Ok : G .Value → Type 0) (Real : G .Pos → Type 0) (F : Fitted s G C key Ok Real) (K : Telling s G key Real) (R : Rules G)
     (keeps : (p : G .Pos) (t : ℕ) (q : G .Pos) → Real p → G .play p t ≡ to q → Real q) (wide : s .compact ≡ false) where
   store-dict : (m : Memo) (k legal : List ℕ) (e : Entry (G .Value)) (nodes : ℕ) → memo-store s G C m k legal e nodes .dict ≡ m .dict
   unfolding memo-store kept put
@@ -28,7 +28,7 @@ module _ (s : Shape) (G : Game) (C : Code (G .Value)) (key : G .Pos → List ℕ
       go false h = refl
 
   abbrev tabled : Tabled G (memory s G C key)
-  tabled = memo-tabled s G C key Ok Real F R keeps
+  tabled = memo-tabled s G C key Ok Real F K R keeps
 
   -- the same table, of which is known that the dictionary is empty
   abbrev wide-tabled : Tabled G (memory s G C key)
