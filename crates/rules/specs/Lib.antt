@@ -1,4 +1,5 @@
--- The definitions of document 01; each file rests on those before it. Assumes nothing.
+-- Document 01 as definitions, and what a call promises. Each file rests on those before it; 01 begins with the call and goes inwards, so beside it the files are read from the end:
+-- Promise, Answer, Call, then Choose, Drivers, Search, Play, Minimax, Memo. Assumes nothing.
 pub mod Limits
 pub mod Text
 pub mod Net

@@ -2,14 +2,14 @@
 -- is met in play; and what each answer leaves of the lent memory (01, "Refused from the input", "Refused from the state").
 -- Assumes nothing.
 use mathlib.Core.Path.{_≡_, refl, sym, ap, _∙_}
-use mathlib.Core.Bool.{false}
+use mathlib.Core.Bool.{true, false}
 use mathlib.Core.Option.{some}
 use mathlib.Core.Logic.{_⊎_, inl, inr}
 use mathlib.Core.List.{List}
 use Prim.Native.Nat.{ℕ, _≤_}
 use native.Mathlib.Omega.{arith}
-use borrow.Author.Tests.{le-leb}
 use lib.Ieee.{Float}
+use Rattle.words.proofs.Lists.{not-both}
 use Rattle.rules.specs.declared.Refusal.{Refusal}
 use Rattle.rules.specs.declared.Answer.{Answer}
 use Rattle.rules.specs.declared.Answer.the-variants.{Refused}
@@ -22,7 +22,7 @@ use Rattle.rules.specs.Answer.{refusal-number, early}
 use Rattle.rules.specs.Call.{Request, Accepted, first-state, Searched, choice, answer-of, Result, untouched, leaving, ended, call}
 use Rattle.rules.specs.Conditions.{Condition, mixed, move-spills, auto-spills, endless, wide, deep}
 use Rattle.theory.proofs.Inputs.{First}
-use Rattle.theory.proofs.Refusals.{unread-early, first-number, Because, by-sheet, by-input, by-state, call-searched, accepted-or-refused, refused-because, because-refused}
+use Rattle.theory.proofs.Refusals.{unread-as, first-number, Because, by-sheet, by-input, by-state, call-searched, accepted-or-refused, refused-because, because-refused}
 use Rattle.rules.specs.Promise.{Means, Either, Leaves}
 use Rattle.theory.proofs.Demand3.{answer-means}
 
@@ -45,7 +45,7 @@ condition-late (wide l w) = refl
 condition-late (deep l d) = refl
 
 module _ (r : Request) where
-  -- a refusal from the state has a number from 8 on, and its condition is met in play from the start
+  -- the condition of a refusal from the state is met in play from where the search starts
   pub state-condition : {net : Net} {q : Marking} {x : Refusal} {l n : ℕ} → Accepted r net q → call r .answer ≡ Refused x l n → Condition net q x
   state-condition {net} {q} {x} {l} {n} A e = let means : Means net (r .options) q (first-state net (r .options)) (r .budget) (Refused x l n) = rw e at (answer-means A) in means .3
 
@@ -59,7 +59,7 @@ module _ (r : Request) where
       go (by-state net q A o a c) = absurd (omega (arith, condition-number (state-condition A e) .0))
 
   pub reading-refused : (x : Refusal) (l : ℕ) → read-sheet (r .sheet) ≡ unread x l → (call r .answer ≡ Refused x l 0) × (refusal-number x ≤ 3)
-  reading-refused x l e = (because-refused r x l 0 (by-sheet e refl), unread-early (r .sheet) x l e)
+  reading-refused x l e = (because-refused r x l 0 (by-sheet e refl), unread-as (r .sheet) x l e .0)
 
   -- 4 TO 7: exactly where the sheet is read and its condition is the first that holds.
   pub refused-input : (x : Refusal) (l n : ℕ) → 4 ≤ refusal-number x → refusal-number x ≤ 7 → call r .answer ≡ Refused x l n
@@ -67,7 +67,7 @@ module _ (r : Request) where
   refused-input x l n h k e = go (refused-because r x l n e)
     where
       go : Because r x l n → (net : Net) × (read-sheet (r .sheet) ≡ accepted net) × First net r x × (l ≡ 0) × (n ≡ 0)
-      go (by-sheet a c) = absurd (omega (arith, unread-early (r .sheet) x l a))
+      go (by-sheet a c) = absurd (omega (arith, unread-as (r .sheet) x l a .0))
       go (by-input net a f b c) = (net, a, f, b, c)
       go (by-state net q A o a c) = absurd (omega (arith, condition-number (state-condition A e) .0))
 
@@ -79,43 +79,43 @@ module _ (r : Request) where
   refused-state x l n h e = go (refused-because r x l n e)
     where
       go : Because r x l n → (net : Net) × (q : Marking) × Accepted r net q × Condition net q x
-      go (by-sheet a c) = absurd (omega (arith, unread-early (r .sheet) x l a))
+      go (by-sheet a c) = absurd (omega (arith, unread-as (r .sheet) x l a .0))
       go (by-input net a f b c) = absurd (omega (arith, first-number f .1))
       go (by-state net q A o a c) = (net, q, A, state-condition A e)
 
-  -- Memory. After 1 to 7 it is untouched.
-  pub early-untouched : (x : Refusal) (l n : ℕ) → refusal-number x ≤ 7 → call r .answer ≡ Refused x l n → (call r .words ≡ r .words) × (call r .tags ≡ r .tags)
+  -- Memory. After a refusal that leaves it alone it is untouched.
+  pub early-untouched : (x : Refusal) (l n : ℕ) → early x ≡ true → call r .answer ≡ Refused x l n → (call r .words ≡ r .words) × (call r .tags ≡ r .tags)
   early-untouched x l n h e = go (accepted-or-refused r)
     where
-      go : ((net : Net) × (q : Marking) × Accepted r net q) ⊎ ((y : Refusal) × (line : ℕ) × (refusal-number y ≤ 7) × (call r ≡ untouched (r .words) (r .tags) (Refused y line 0))) → (call r .words ≡ r .words) × (call r .tags ≡ r .tags)
-      go (inl (net, q, A)) = absurd (omega (arith, condition-number (state-condition A e) .0))
+      go : ((net : Net) × (q : Marking) × Accepted r net q) ⊎ ((y : Refusal) × (line : ℕ) × (early y ≡ true) × (call r ≡ untouched (r .words) (r .tags) (Refused y line 0))) → (call r .words ≡ r .words) × (call r .tags ≡ r .tags)
+      go (inl (net, q, A)) = absurd (not-both _ h (condition-late (state-condition A e)))
       go (inr (y, line, k, c)) = (ap (λ (z : Result Answer). z .words) c, ap (λ (z : Result Answer). z .tags) c)
 
 -- After any other answer the memo's part is zero, or holds what was stored last, and what lies behind it is as it was.
-pub memory-left : (r : Request) (net : Net) (q : Marking) → Accepted r net q → Leaves net r q (first-state net (r .options)) (call r .answer) (call r .words) (call r .tags)
+pub memory-left : (r : Request) (net : Net) (q : Marking) → Accepted r net q → Leaves (r .words) (r .tags) net (r .options) q (first-state net (r .options)) (r .budget) (call r .answer) (call r .words) (call r .tags)
 unfolding ended leaving answer-of
 memory-left r net q A = rw (call-searched r net q A) (go (end .0))
   where
     end : Searched net (r .options)
     end = choice net (r .options) (some (r .budget)) q (first-state net (r .options))
 
-    go : (o : Outcome (Choice Float)) → Leaves net r q (first-state net (r .options)) (ended net r o (end .1) .answer) (ended net r o (end .1) .words) (ended net r o (end .1) .tags)
+    go : (o : Outcome (Choice Float)) → Leaves (r .words) (r .tags) net (r .options) q (first-state net (r .options)) (r .budget) (ended net r o (end .1) .answer) (ended net r o (end .1) .words) (ended net r o (end .1) .tags)
     go (value no-move) = record { words-left = refl; tags-left = refl }
     go (value no-child) = record { words-left = refl; tags-left = refl }
     go (value (key t v)) = record { words-left = refl; tags-left = refl }
     go spent = record { words-left = refl; tags-left = refl }
     go (refused x) = record { words-left = refl; tags-left = refl }
 
--- The input is accepted, or refused by one of 1 to 7 with all lent memory as it was.
+-- The input is accepted, or refused with all lent memory as it was.
 pub either-way : (r : Request) (a : Answer) (words tags : List ℕ) → call r ≡ record { answer = a; words = words; tags = tags } → Either r a words tags
 either-way r a words tags e = go (accepted-or-refused r)
   where
-    go : ((net : Net) × (q : Marking) × Accepted r net q) ⊎ ((y : Refusal) × (line : ℕ) × (refusal-number y ≤ 7) × (call r ≡ untouched (r .words) (r .tags) (Refused y line 0))) → Either r a words tags
+    go : ((net : Net) × (q : Marking) × Accepted r net q) ⊎ ((y : Refusal) × (line : ℕ) × (early y ≡ true) × (call r ≡ untouched (r .words) (r .tags) (Refused y line 0))) → Either r a words tags
     go (inl (net, q, A)) = inl (net, q, A)
     go (inr (x, line, h, k)) = inr (record {
       refusal = x;
       line = line;
-      is-early = le-leb _ _ h;
+      is-early = h;
       answers = ap (λ (z : Result Answer). z .answer) (sym e ∙ k);
       words-kept = ap (λ (z : Result Answer). z .words) (sym e ∙ k);
       tags-kept = ap (λ (z : Result Answer). z .tags) (sym e ∙ k);

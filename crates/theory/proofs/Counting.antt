@@ -12,7 +12,12 @@ use Rattle.rules.specs.Game.{Game, Values, Side, Played, to, stopped, eqv}
 use Rattle.rules.specs.Search.{Entry, Outcome, value, spent, refused, Memory, Policy, Settings, State, Run, follow, then, passes, alpha-beta}
 use Rattle.rules.specs.Drivers.{Driver, single, scout, mtd, run}
 use Rattle.rules.specs.Choose.{no-move, remembered, matched, child-run, played-value, check, root, started, chosen, choose}
-use Rattle.theory.specs.Counted.{left, recount, anew, choose-anew}
+use Rattle.rules.specs.Net.{Net, rewards}
+use Rattle.rules.specs.Play.{Marking}
+use Rattle.rules.specs.Rewards.{values}
+use Rattle.rules.specs.NetGame.{float-game, float-scale, driver-of, levels}
+use Rattle.rules.specs.Call.{Options, settings-of, choice}
+use Rattle.theory.specs.Counted.{left, recount, anew, choose-anew, choice-anew}
 use Rattle.theory.proofs.Simulation.{Both, Agree, Entries, InStep, Closed, Ends, alpha-beta-steps}
 use Rattle.theory.proofs.InStep.{Drivers, run-steps}
 use Rattle.theory.proofs.Answer.{Gives}
@@ -190,3 +195,8 @@ module _ (G : Game) (S : Settings G) where
   unfolding choose-anew choose
   choose-anew-same δ b d p st h =
       chosen-level b _ _ (λ q. record { equal = anew-same δ b d q; fits = run-fits δ b d b q }) p .equal st h
+
+-- and so of a choice on a net, a call's among them
+pub choice-anew-same : (net : Net) (o : Options) (b : Option ℕ) (m : Marking) (st : State (settings-of net o)) → Fits b (st .nodes) → choice-anew net o b m st ≡ choice net o b m st
+unfolding choice
+choice-anew-same net o b m st = choose-anew-same (float-game net) (settings-of net o) (driver-of (float-game net) (float-scale net) (values (rewards net)) (o .driver)) b levels m st

@@ -26,7 +26,7 @@ use Rattle.rules.specs.Call.{Request, asked, first-state, settings-fit, goals-m
 use Rattle.rules.specs.Cases.{first-sheet, two-plies}
 use Rattle.theory.proofs.Fits.{fits, fits-premises}
 use Rattle.theory.proofs.Minimax.{played-worth, worth-unique, minimax-worth}
-use Rattle.theory.proofs.Inputs.{none-accepted, starts-settled}
+use Rattle.theory.proofs.Inputs.{none-accepted, ready-quiet}
 use Rattle.theory.proofs.NetRules.{net-rules}
 use Rattle.rules.specs.Promise.{MinimaxAnswer, Demand3}
 use Rattle.theory.proofs.Demand3.{demand-3}
@@ -106,7 +106,7 @@ pub known-demand-3 : {sheet : List ℕ} → Known sheet → (r : Request) (net :
     Demand3 net (r .options) q (first-state net (r .options)) (r .budget) (call r .answer) × ((a : MinimaxAnswer net (r .options) q (first-state net (r .options)) (call r .answer)) → a .number ≡ pos 1)
 known-demand-3 k r net q e A =
     let s = k .solved net (rw e at (A .readable)) in
-    let same = starts-settled net q (A .starts) .0 in (
+    let same = ready-quiet net (start net) q (A .starts) .0 in (
       demand-3 A (rw same at (s .premises)) (λ none-there. List·Memᴰ·not-nil (rw (same, none-there) at (s .key))),
       λ a. worth-unique (int-game net) (net-rules net) (a .start-worth) (rw same at (s .start-worth)),
     )
