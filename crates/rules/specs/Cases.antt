@@ -10,7 +10,7 @@ use Rattle.rules.specs.Text.{bytes}
 use Rattle.rules.specs.Sheet.{Reading, accepted, unread}
 use Rattle.rules.specs.Play.{Marking, enabled, fire, start}
 use Rattle.rules.specs.Answer.{report}
-use Rattle.rules.specs.Call.{call}
+use Rattle.rules.specs.Call.{asked, call}
 
 abbrev pub first-sheet : List ℕ
 first-sheet =
@@ -37,7 +37,7 @@ abbrev pub printed : Case → List ℕ
 printed c =
     report
     (call
-    (record { sheet = c .sheet; budget = c .budget; entries = c .entries; driver = c .driver; filters = c .filters; chain = 0 ∷ 1 ∷ 2 ∷ []; words = replicate 3072 0; tags = replicate 1024 0 })
+    (asked (c .sheet) (c .budget) (c .entries) (c .driver) (c .filters) (0 ∷ 1 ∷ 2 ∷ []) (replicate 3072 0) (replicate 1024 0))
     .answer)
 
 abbrev pub expected : Case → List ℕ

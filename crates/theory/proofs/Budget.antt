@@ -10,7 +10,7 @@ use lib.Dec.{ltb}
 use borrow.Author.Tests.{ltb-true, ltb-false}
 use Rattle.rules.specs.Game.{Game, Side, opp, leq}
 use Rattle.rules.specs.Minimax.{pick}
-use Rattle.rules.specs.Search.{Interval, Child, Best, Outcome, value, spent, refused, edge, window, Memory, Policy, Settings, State, Run, Search, follow, then, tick, Recalled, known, unknown, recall, Expanded, halted, won, children, improve, ended, row, finish, searched, turned, listed, opened, node, passes, budgeted, counted, too-deep, alpha-beta}
+use Rattle.rules.specs.Search.{Interval, Child, Best, Outcome, value, spent, refused, edge, window, Memory, Policy, Settings, State, Run, Search, follow, then, tick, Recalled, known, unknown, recall, Expanded, halted, won, children, improve, ended, row, finish, searched, turned, listed, opened, node, passes, budgeted, ticked, counted, too-deep, alpha-beta}
 
 -- an end other than `spent`
 abbrev pub Unspent : {A : Type 0} → Outcome A → Type 0
@@ -119,10 +119,10 @@ module _ (G : Game) (S : Settings G) (B : ℕ) where
     }
 
     counted-budgeted : BudgetedSearch (counted G S none f) (counted G S (some B) g)
-    unfolding counted passes budgeted
+    unfolding counted ticked passes budgeted
     counted-budgeted p w = record { unspent = λ st. ih p w .unspent (tick G S st); grows = λ st. omega (arith, ih p w .grows (tick G S st)); within = λ st l. go st l (ltb B (suc (st .nodes))) refl }
       where
-        go : (st : State S) → st .nodes ≤ B → (x : Bool) → ltb B (suc (st .nodes)) ≡ x → Within (f p w (tick G S st)) (budgeted G S x g p w (tick G S st))
+        go : (st : State S) → st .nodes ≤ B → (x : Bool) → ltb B (suc (st .nodes)) ≡ x → Within (f p w (tick G S st)) (budgeted G S x (g p w) (tick G S st))
         go st l true e = short (omega (arith, ltb-true, ih p w .grows (tick G S st))) refl (omega (arith, ltb-true))
         go st l false e = ih p w .within (tick G S st) (ltb-false B (suc (st .nodes)) e)
 

@@ -1,5 +1,5 @@
 -- The call as a whole, under the premises on play: with no budget it is not refused, and its key leads to a child of the same minimax
--- value as the root. With a budget it does the same if the count stays within it, and else is spent (`choose-counted-budgeted`).
+-- value as the root. With a budget it does the same if the count stays within it, and else is spent (`choose-budgeted`).
 -- Assumes nothing.
 use mathlib.Core.Path.{_≡_, refl}
 use mathlib.Core.Option.{none, some}
@@ -10,20 +10,19 @@ use Rattle.rules.specs.Game.{Game, to, _∈_}
 use Rattle.rules.specs.Minimax.{Worth}
 use Rattle.rules.specs.Search.{Outcome, value, spent, refused, Memory, Settings, State}
 use Rattle.rules.specs.Drivers.{Driver}
-use Rattle.rules.specs.Choose.{Choice, no-move, no-child, key}
-use Rattle.theory.specs.Promise.{Leads, IsKey}
-use Rattle.theory.specs.Counted.{choose-counted}
-use Rattle.theory.specs.Forces.{Exact}
+use Rattle.rules.specs.Choose.{Choice, no-move, no-child, key, choose}
+use Rattle.rules.specs.Promise.{Leads, IsKey}
+use Rattle.rules.specs.Forces.{Exact}
 use Rattle.theory.specs.Causes.{Cause}
 use Rattle.theory.specs.Regular.{Turn, Regular}
 use Rattle.theory.proofs.Forces.{exact-unique}
 use Rattle.theory.proofs.Minimax.{worth-exact, minimax-worth, minimax-some}
 use Rattle.theory.proofs.Answer.{Sound, Gives}
 use Rattle.theory.proofs.Budget.{Within, same, short}
-use Rattle.theory.proofs.Causes.{choose-counted-blamed}
+use Rattle.theory.proofs.Causes.{choose-blamed}
 use Rattle.theory.proofs.Regular.{Valued, valued, regular-uncaused}
-use Rattle.theory.proofs.Choose.{Chosen, choose-counted-sound}
-use Rattle.theory.proofs.Runs.{choose-counted-budgeted}
+use Rattle.theory.proofs.Choose.{Chosen, choose-sound}
+use Rattle.theory.proofs.Runs.{choose-budgeted}
 use Rattle.theory.proofs.Laws.{Tabled, Lawful, Driven}
 
 module _ (G : Game) where
@@ -52,9 +51,9 @@ module _ (G : Game) (S : Settings G) (M : Lawful G S) (d : ℕ) where
   open Lawful M using (rules as R)
   open Tabled (M .table) using (Real)
 
-  choose-counted-valued : (δ : Driver G) (p : Pos) → Regular G (suc d) p → (st : State S) → Valued (choose-counted G S δ none (suc d) p st .0)
-  choose-counted-valued δ p h st =
-      valued (Cause G (suc d) p) (choose-counted G S δ none (suc d) p st .0) (choose-counted-budgeted G S 0 δ (suc d) p .unspent st) (choose-counted-blamed G S M δ none (suc d) p st) (λ r c. regular-uncaused G (suc d) h c)
+  choose-valued : (δ : Driver G) (p : Pos) → Regular G (suc d) p → (st : State S) → Valued (choose G S δ none (suc d) p st .0)
+  choose-valued δ p h st =
+      valued (Cause G (suc d) p) (choose G S δ none (suc d) p st .0) (choose-budgeted G S 0 δ (suc d) p .unspent st) (choose-blamed G S M δ none (suc d) p st) (λ r c. regular-uncaused G (suc d) h c)
 
   minimax-key : (p : Pos) (m : ℕ) (v : Value) → Regular G (suc d) p → IsKey G p m v → MinimaxKey G p m v
   minimax-key p m v h x = go (h .turn)
@@ -87,11 +86,11 @@ module _ (G : Game) (S : Settings G) (M : Lawful G S) (d : ℕ) where
       }
 
   -- THEOREM 4, under the premises on play.
-  pub choose-counted-minimax : (δ : Driver G) → Driven G δ → (p : Pos) (st : State S) → Regular G (suc d) p → (moves p ≡ [] → ⊥) → Real p → Sound G S M (st .memo) →
-      (m : ℕ) × (v : Value) × (choose-counted G S δ none (suc d) p st .0 ≡ value (key m v)) × MinimaxKey G p m v
-  choose-counted-minimax δ t p st h ne real sound = go (choose-counted G S δ none (suc d) p st .0) refl (choose-counted-valued δ p h st) (choose-counted-sound G S M δ t none (suc d) p st real sound .gives)
+  pub choose-minimax : (δ : Driver G) → Driven G δ → (p : Pos) (st : State S) → Regular G (suc d) p → (moves p ≡ [] → ⊥) → Real p → Sound G S M (st .memo) →
+      (m : ℕ) × (v : Value) × (choose G S δ none (suc d) p st .0 ≡ value (key m v)) × MinimaxKey G p m v
+  choose-minimax δ t p st h ne real sound = go (choose G S δ none (suc d) p st .0) refl (choose-valued δ p h st) (choose-sound G S M δ t none (suc d) p st real sound .gives)
     where
-      go : (o : Outcome (Choice Value)) → choose-counted G S δ none (suc d) p st .0 ≡ o → Valued o → Gives (Chosen G p) o → (m : ℕ) × (v : Value) × (choose-counted G S δ none (suc d) p st .0 ≡ value (key m v)) × MinimaxKey G p m v
+      go : (o : Outcome (Choice Value)) → choose G S δ none (suc d) p st .0 ≡ o → Valued o → Gives (Chosen G p) o → (m : ℕ) × (v : Value) × (choose G S δ none (suc d) p st .0 ≡ value (key m v)) × MinimaxKey G p m v
       go (value no-move) e v g = absurd (ne g)
       go (value no-child) e v g = absurd g
       go (value (key m x)) e v g = (m, x, e, minimax-key p m x h g)
@@ -99,10 +98,10 @@ module _ (G : Game) (S : Settings G) (M : Lawful G S) (d : ℕ) where
       go (refused x) e v g = absurd v
 
   -- The same with a budget, from a count within it.
-  pub choose-counted-answer : (δ : Driver G) → Driven G δ → (B : ℕ) (p : Pos) (st : State S) → Regular G (suc d) p → (moves p ≡ [] → ⊥) → Real p → Sound G S M (st .memo) → st .nodes ≤ B →
-      Answered G S B p (choose-counted G S δ none (suc d) p st) (choose-counted G S δ (some B) (suc d) p st)
-  choose-counted-answer δ t B p st h ne real sound l = go (choose-counted-budgeted G S B δ (suc d) p .within st l)
+  pub choose-answer : (δ : Driver G) → Driven G δ → (B : ℕ) (p : Pos) (st : State S) → Regular G (suc d) p → (moves p ≡ [] → ⊥) → Real p → Sound G S M (st .memo) → st .nodes ≤ B →
+      Answered G S B p (choose G S δ none (suc d) p st) (choose G S δ (some B) (suc d) p st)
+  choose-answer δ t B p st h ne real sound l = go (choose-budgeted G S B δ (suc d) p .within st l)
     where
-      go : Within G S B (choose-counted G S δ none (suc d) p st) (choose-counted G S δ (some B) (suc d) p st) → Answered G S B p (choose-counted G S δ none (suc d) p st) (choose-counted G S δ (some B) (suc d) p st)
-      go (same n e) = let (m, v, x, y) = choose-counted-minimax δ t p st h ne real sound in exact n e m v (rw e x) y
+      go : Within G S B (choose G S δ none (suc d) p st) (choose G S δ (some B) (suc d) p st) → Answered G S B p (choose G S δ none (suc d) p st) (choose G S δ (some B) (suc d) p st)
+      go (same n e) = let (m, v, x, y) = choose-minimax δ t p st h ne real sound in exact n e m v (rw e x) y
       go (short n e c) = over n e c

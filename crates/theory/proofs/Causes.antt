@@ -16,11 +16,10 @@ use Rattle.rules.specs.Limits.{max-moves}
 use Rattle.rules.specs.Game.{Game, Side, opp, Played, to, stopped, eqv, _∈_, leq}
 use Rattle.rules.specs.Minimax.{pick}
 use Rattle.rules.specs.Filter.{Verdict, keep, drop, refuse, wins}
-use Rattle.rules.specs.Search.{Interval, Entry, Child, Best, Outcome, value, spent, refused, edge, window, Memory, Policy, Settings, State, Run, Search, follow, then, tick, Recalled, known, unknown, recall, Expanded, halted, won, children, add, expanded, played, expand, sifted, sift, filtered, improve, ended, row, finish, searched, turned, listed, opened, node, passes, budgeted, counted, too-deep, alpha-beta}
+use Rattle.rules.specs.Search.{Interval, Entry, Child, Best, Outcome, value, spent, refused, edge, window, Memory, Policy, Settings, State, Run, Search, follow, then, tick, Recalled, known, unknown, recall, Expanded, halted, won, children, add, expanded, played, expand, sifted, sift, filtered, improve, ended, row, finish, searched, turned, listed, opened, node, passes, budgeted, ticked, counted, too-deep, alpha-beta}
 use Rattle.rules.specs.Drivers.{Scale, Driver, single, scout, mtd, rung, onward, sided, begun, stepped, scout-from, mtd-next, mtd-test, mtd-from, mtd-begin, run}
-use Rattle.rules.specs.Choose.{child-run, matched, check-played, check, remembered, root, chosen}
+use Rattle.rules.specs.Choose.{no-move, child-run, matched, played-value, check, remembered, root, started, chosen, choose}
 use Rattle.theory.specs.Causes.{here, by, Cause, mixed, wide, stops, deep}
-use Rattle.theory.specs.Counted.{choose-counted}
 use Rattle.theory.proofs.Children.{Prepared, expand-prepared, filtered-prepared}
 use Rattle.theory.proofs.Choose.{remembered-in}
 use Rattle.theory.proofs.Laws.{Orderly, Lawful}
@@ -125,35 +124,39 @@ module _ (G : Game) (S : Settings G) where
     child-blamed q [] st = tt
     child-blamed q (t ∷ l) st = ih q st
 
+    played-blamed : (t : ℕ) → t ∈ moves p → (y : Played Pos) → play p t ≡ y → Blamed (Cause G d p) (played-value G S r y)
+    unfolding played-value
+    played-blamed t i (stopped x) e st = stops here i e
+    played-blamed t i (to q) e st = blames-map (Cause G d q) (Cause G d p) (child-run G S r q (moves q) st .0) (λ x c. down G i e (omega arith) c) (child-blamed q (moves q) st)
+
     check-blamed : (v : Value) (l : List ℕ) → ((t : ℕ) → t ∈ l → t ∈ moves p) → Blamed (Cause G d p) (check G S r p v l)
-    unfolding check check-played matched
+    unfolding check matched
     check-blamed v [] h st = tt
-    check-blamed v (t ∷ l) h st = go (check-blamed v l (λ u i. h u (List·Memᴰ·tail i))) (play p t) refl
+    check-blamed v (t ∷ l) h st = blamed-then (Cause G d p) _ _ (played-blamed t (h t (List·Memᴰ·head refl)) (play p t) refl) (λ x. match (check-blamed v l (λ u i. h u (List·Memᴰ·tail i))) (eqv G x v)) st
       where
         match : Blamed (Cause G d p) (check G S r p v l) → (x : Bool) → Blamed (Cause G d p) (matched G S x t v (check G S r p v l))
         match rest true z = tt
         match rest false z = rest z
 
-        go : Blamed (Cause G d p) (check G S r p v l) → (y : Played Pos) → play p t ≡ y → Blames (Cause G d p) (check-played G S r y t v (check G S r p v l) st .0)
-        go rest (stopped x) e = stops here (h t (List·Memᴰ·head refl)) e
-        go rest (to q) e =
-            blamed-then (Cause G d p) _ _ (λ z. blames-map (Cause G d q) (Cause G d p) (child-run G S r q (moves q) z .0) (λ x c. down G (h t (List·Memᴰ·head refl)) e (omega arith) c) (child-blamed q (moves q) z)) (λ x. match rest (eqv G x v)) st
-
-    chosen-blamed : Blamed (Cause G d p) (chosen G S r p (ltb max-moves (length (moves p))) (moves p))
-    unfolding chosen root
-    chosen-blamed st = go (ltb max-moves (length (moves p))) refl (moves p) refl
+    started-blamed : {A : Type 0} (a : A) (k : Value → Run G S A) → ((v : Value) → Blamed (Cause G d p) (k v)) → Blamed (Cause G d p) (started G S r a k p (ltb max-moves (length (moves p))) (moves p))
+    unfolding started root
+    started-blamed {A} a k h st = go (ltb max-moves (length (moves p))) refl (moves p) refl
       where
-        tries : (z : State S) (u : ℕ) → u ∈ remembered G S (moves p) (get (z .memo) p) ++ moves p → u ∈ moves p
-        tries z u i = ⊎-elim (remembered-in G S (moves p) (get (z .memo) p) u) (λ j. j) (List·Memᴰ·append-cases (remembered G S (moves p) (get (z .memo) p)) i)
-
-        side : (t : ℕ) (l : List ℕ) → moves p ≡ t ∷ l → (o : Option Side) → mover p ≡ o → Blames (Cause G d p) (root G S r p o st .0)
+        side : (t : ℕ) (l : List ℕ) → moves p ≡ t ∷ l → (o : Option Side) → mover p ≡ o → Blames (Cause G d p) (root G S r k p o st .0)
         side t l e none m = no-side d p t l e m
-        side t l e (some s) m = blamed-then (Cause G d p) _ _ (ih p) (λ v z. check-blamed v _ (tries z) z) st
+        side t l e (some s) m = blamed-then (Cause G d p) _ _ (ih p) h st
 
-        go : (b : Bool) → ltb max-moves (length (moves p)) ≡ b → (l : List ℕ) → moves p ≡ l → Blames (Cause G d p) (chosen G S r p b l st .0)
+        go : (b : Bool) → ltb max-moves (length (moves p)) ≡ b → (l : List ℕ) → moves p ≡ l → Blames (Cause G d p) (started G S r a k p b l st .0)
         go b w [] e = tt
         go true w (t ∷ l) e = wide here (ltb-true max-moves (length (moves p)) w)
         go false w (t ∷ l) e = side t l e (mover p) refl
+
+    chosen-blamed : Blamed (Cause G d p) (chosen G S r p)
+    unfolding chosen
+    chosen-blamed = started-blamed no-move _ (λ v z. check-blamed v _ (tries z) z)
+      where
+        tries : (z : State S) (u : ℕ) → u ∈ remembered G S (moves p) (get (z .memo) p) ++ moves p → u ∈ moves p
+        tries z u i = ⊎-elim (remembered-in G S (moves p) (get (z .memo) p) u) (λ j. j) (List·Memᴰ·append-cases (remembered G S (moves p) (get (z .memo) p)) i)
 
 -- The search.
 module _ (G : Game) (S : Settings G) (M : Lawful G S) where
@@ -250,10 +253,10 @@ module _ (G : Game) (S : Settings G) (M : Lawful G S) where
           go false b (t ∷ l) e = side t l e (mover p) refl
 
   counted-blamed : (b : Option ℕ) (d : ℕ) (f : Search G S) → BlamedSearch G S d f → BlamedSearch G S d (counted G S b f)
-  unfolding counted budgeted
+  unfolding counted ticked budgeted
   counted-blamed b d f h p w st = go (passes G S b (suc (st .nodes)))
     where
-      go : (x : Bool) → Blames (Cause G d p) (budgeted G S x f p w (tick G S st) .0)
+      go : (x : Bool) → Blames (Cause G d p) (budgeted G S x (f p w) (tick G S st) .0)
       go true = tt
       go false = h p w (tick G S st)
 
@@ -263,6 +266,6 @@ module _ (G : Game) (S : Settings G) (M : Lawful G S) where
   alpha-beta-blamed b (suc d) = counted-blamed b (suc d) (node G S (alpha-beta G S b d)) (λ p w st. opened-blamed d p (alpha-beta G S b d) (alpha-beta-blamed b d) (recall G S w (get (st .memo) p)) st)
 
   -- Choosing refuses only with a cause in play from the position, where a line of `d` moves is too long.
-  pub choose-counted-blamed : (δ : Driver G) (b : Option ℕ) (d : ℕ) (p : Pos) → Blamed G S (Cause G d p) (choose-counted G S δ b d p)
-  unfolding choose-counted
-  choose-counted-blamed δ b d p = chosen-blamed G S d (run G S δ (alpha-beta G S b d)) (λ q. run-blamed G S d (alpha-beta G S b d) (alpha-beta-blamed b d) q δ) p
+  pub choose-blamed : (δ : Driver G) (b : Option ℕ) (d : ℕ) (p : Pos) → Blamed G S (Cause G d p) (choose G S δ b d p)
+  unfolding choose
+  choose-blamed δ b d p = chosen-blamed G S d (run G S δ (alpha-beta G S b d)) (λ q. run-blamed G S d (alpha-beta G S b d) (alpha-beta-blamed b d) q δ) p

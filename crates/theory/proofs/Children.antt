@@ -9,7 +9,7 @@ use Prim.Native.Nat.{ℕ}
 use Rattle.rules.specs.Game.{Game, Side, opp, Played, to, stopped, _∈_, Le, worst}
 use Rattle.rules.specs.Filter.{Verdict, keep, drop, refuse, wins}
 use Rattle.rules.specs.Search.{Child, Policy, Settings, Expanded, halted, won, children, add, expanded, played, expand, sifted, sift, filtered}
-use Rattle.theory.specs.Forces.{Forces}
+use Rattle.rules.specs.Forces.{Forces}
 use Rattle.theory.proofs.Tests.{and-true}
 use Rattle.theory.proofs.Filter.{wins-final}
 use Rattle.theory.proofs.Order.{flip-le}

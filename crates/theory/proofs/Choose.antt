@@ -11,10 +11,9 @@ use Rattle.rules.specs.Game.{Game, Side, max, Played, to, stopped, _∈_, eqv}
 use Rattle.rules.specs.Minimax.{pick}
 use Rattle.rules.specs.Search.{Entry, Memory, Settings, State, Run, alpha-beta}
 use Rattle.rules.specs.Drivers.{Driver, run}
-use Rattle.rules.specs.Choose.{Choice, no-move, no-child, key, child-run, matched, check-played, check, if-in, known-move, remembered, root, chosen}
-use Rattle.theory.specs.Promise.{Leads, IsKey}
-use Rattle.theory.specs.Counted.{choose-counted}
-use Rattle.theory.specs.Forces.{final, Exact}
+use Rattle.rules.specs.Choose.{Choice, no-move, no-child, key, child-run, matched, played-value, check, if-in, known-move, remembered, root, started, chosen, choose}
+use Rattle.rules.specs.Promise.{Leads, IsKey}
+use Rattle.rules.specs.Forces.{final, Exact}
 use Rattle.theory.proofs.Order.{le-refl, le-antisym, pick-elim}
 use Rattle.theory.proofs.Forces.{BestOf, best-one, best-more, best-exact, exact-unique, not-final}
 use Rattle.theory.proofs.Answer.{Sound, Fine, fine-map, fine-then}
@@ -92,6 +91,12 @@ module _ (G : Game) (S : Settings G) (M : Lawful G S) where
     child-exact q [] k e st sound = record { sound = sound; gives = λ s. final e (le-refl G R) }
     child-exact q (t ∷ l) k e st sound = exact q k st sound
 
+    -- the value after move `t` is what both sides force there
+    played-exact : (t : ℕ) (y : Played Pos) → play p t ≡ y → (st : State S) → Sound G S M (st .memo) → Fine G S M (Leads G p t) (played-value G S r y st)
+    unfolding played-value
+    played-exact t (stopped x) e st sound = record { sound = sound; gives = tt }
+    played-exact t (to q) e st sound = fine-map G S M (λ x h. record { next = q; plays = e; exact = h }) (child-exact q (moves q) (play-real p t q real e) refl st sound)
+
     -- what the check of the moves `l` gives
     record Found (v : Value) (l : List ℕ) (t : ℕ) (x : Value) : Type 0 where
       here : t ∈ l
@@ -104,9 +109,10 @@ module _ (G : Game) (S : Settings G) (M : Lawful G S) where
     Checked v l (key t x) = Found v l t x
 
     check-sound : (v : Value) (l : List ℕ) (st : State S) → Sound G S M (st .memo) → Fine G S M (Checked v l) (check G S r p v l st)
-    unfolding check check-played matched
+    unfolding check matched
     check-sound v [] st sound = record { sound = sound; gives = λ t i. absurd (List·Memᴰ·not-nil i) }
-    check-sound v (t ∷ l) st sound = go (check-sound v l) (play p t) refl
+    check-sound v (t ∷ l) st sound =
+        fine-then G S M _ _ st (played-exact t (play p t) refl st sound) (λ x z k h. match (check-sound v l) x h z k (eqv G x v) refl)
       where
         further : (x : Value) → Leads G p t x → (x ≡ v → ⊥) → (k : Choice Value) → Checked v l k → Checked v (t ∷ l) k
         further x h ne no-move c = c
@@ -122,23 +128,30 @@ module _ (G : Game) (S : Settings G) (M : Lawful G S) where
         match rest x h z k true e = record { sound = k; gives = record { here = List·Memᴰ·head refl; is-value = refl; leads = rw (eqv-true x v e) at h } }
         match rest x h z k false e = fine-map G S M (further x h (eqv-false x v e)) (rest z k)
 
-        go : ((z : State S) → Sound G S M (z .memo) → Fine G S M (Checked v l) (check G S r p v l z)) → (y : Played Pos) → play p t ≡ y → Fine G S M (Checked v (t ∷ l)) (check-played G S r y t v (check G S r p v l) st)
-        go rest (stopped x) e = record { sound = sound; gives = tt }
-        go rest (to q) e =
-            fine-then G S M _ _ st (child-exact q (moves q) (play-real p t q real e) refl st sound) (λ x z k h. match rest x (record { next = q; plays = e; exact = h }) z k (eqv G x v) refl)
-
     chosen-of : (s : Side) (v : Value) (l : List ℕ) → mover p ≡ some s → Exact G v p → ((t : ℕ) → t ∈ l → t ∈ moves p) → ((t : ℕ) → t ∈ moves p → t ∈ l) → (k : Choice Value) → Checked v l k → Chosen G p k
     chosen-of s v l m x f g no-move c = absurd c
     chosen-of s v l m x f g no-child c = some-child G R s p v m x (λ t i. c t (g t i))
     chosen-of s v l m x f g (key t y) c = record { is-move = f t (c .here); root-exact = rw (c .is-value) x; child-leads = rw (c .is-value) (c .leads) }
 
-    root-sound : (o : Option Side) (st : State S) → mover p ≡ o → Sound G S M (st .memo) → Fine G S M (Chosen G p) (root G S r p o st)
-    unfolding root
-    root-sound none st m sound = record { sound = sound; gives = tt }
-    root-sound (some s) st m sound = fine-then G S M _ _ st (exact p real st sound) (λ v z k x. fine-map G S M (all v z x) (check-sound v _ z k))
+    -- what is begun, over what goes on from a root whose value both sides force
+    started-sound : {A : Type 0} (P : A → Type 0) (a : A) (k : Value → Run G S A) → (moves p ≡ [] → P a) →
+        ((s : Side) (v : Value) (z : State S) → mover p ≡ some s → Exact G v p → Sound G S M (z .memo) → Fine G S M P (k v z)) →
+        (b : Bool) (l : List ℕ) (st : State S) → moves p ≡ l → Sound G S M (st .memo) → Fine G S M P (started G S r a k p b l st)
+    unfolding started root
+    started-sound P a k pa h b [] st e sound = record { sound = sound; gives = pa e }
+    started-sound P a k pa h true (t ∷ l) st e sound = record { sound = sound; gives = tt }
+    started-sound P a k pa h false (t ∷ l) st e sound = go (mover p) refl
       where
-        all : (v : Value) (z : State S) → Exact G v p → (k : Choice Value) → Checked v (remembered G S (moves p) (get (z .memo) p) ++ moves p) k → Chosen G p k
-        all v z x = chosen-of s v (first ++ moves p) m x (λ t i. either t (List·Memᴰ·append-cases first i)) (λ t i. Memᴰ·append-right first i)
+        go : (o : Option Side) → mover p ≡ o → Fine G S M P (root G S r k p o st)
+        go none m = record { sound = sound; gives = tt }
+        go (some s) m = fine-then G S M _ _ st (exact p real st sound) (λ v z y x. h s v z m x y)
+
+    chosen-sound : (st : State S) → Sound G S M (st .memo) → Fine G S M (Chosen G p) (chosen G S r p st)
+    unfolding chosen
+    chosen-sound st sound = started-sound (Chosen G p) no-move _ (λ e. e) (λ s v z m x y. fine-map G S M (all s v z m x) (check-sound v _ z y)) _ (moves p) st refl sound
+      where
+        all : (s : Side) (v : Value) (z : State S) → mover p ≡ some s → Exact G v p → (k : Choice Value) → Checked v (remembered G S (moves p) (get (z .memo) p) ++ moves p) k → Chosen G p k
+        all s v z m x = chosen-of s v (first ++ moves p) m x (λ t i. either t (List·Memᴰ·append-cases first i)) (λ t i. Memᴰ·append-right first i)
           where
             first : List ℕ
             first = remembered G S (moves p) (get (z .memo) p)
@@ -147,14 +160,8 @@ module _ (G : Game) (S : Settings G) (M : Lawful G S) where
             either t (inl i) = remembered-in G S (moves p) (get (z .memo) p) t i
             either t (inr i) = i
 
-    chosen-sound : (b : Bool) (l : List ℕ) (st : State S) → moves p ≡ l → Sound G S M (st .memo) → Fine G S M (Chosen G p) (chosen G S r p b l st)
-    unfolding chosen
-    chosen-sound b [] st e sound = record { sound = sound; gives = e }
-    chosen-sound true (t ∷ l) st e sound = record { sound = sound; gives = tt }
-    chosen-sound false (t ∷ l) st e sound = root-sound (mover p) st refl sound
-
   -- THEOREM 4 (choosing), with no premise on play.
-  pub choose-counted-sound : (δ : Driver G) → Driven G δ → (b : Option ℕ) (d : ℕ) (p : Pos) (st : State S) → Real p → Sound G S M (st .memo) →
-      Fine G S M (Chosen G p) (choose-counted G S δ b d p st)
-  unfolding choose-counted
-  choose-counted-sound δ t b d p st real sound = chosen-sound (run G S δ (alpha-beta G S b d)) (λ q k. run-exact G S M q k δ t (alpha-beta G S b d) (alpha-beta-sound G S M b d)) p real _ (moves p) st refl sound
+  pub choose-sound : (δ : Driver G) → Driven G δ → (b : Option ℕ) (d : ℕ) (p : Pos) (st : State S) → Real p → Sound G S M (st .memo) →
+      Fine G S M (Chosen G p) (choose G S δ b d p st)
+  unfolding choose
+  choose-sound δ t b d p st real sound = chosen-sound (run G S δ (alpha-beta G S b d)) (λ q k. run-exact G S M q k δ t (alpha-beta G S b d) (alpha-beta-sound G S M b d)) p real st sound

@@ -11,8 +11,13 @@ use borrow.Author.Tests.{ltb-true, ltb-false, lt-ltb, le-ltb}
 use Rattle.rules.specs.Game.{Game, Values, Side, Played, to, stopped, eqv}
 use Rattle.rules.specs.Search.{Entry, Outcome, value, spent, refused, Memory, Policy, Settings, State, Run, follow, then, passes, alpha-beta}
 use Rattle.rules.specs.Drivers.{Driver, single, scout, mtd, run}
-use Rattle.rules.specs.Choose.{left, remembered, matched, child-run, check-played, check, root, chosen, recount, anew, choose}
-use Rattle.theory.specs.Counted.{choose-counted}
+use Rattle.rules.specs.Choose.{no-move, remembered, matched, child-run, played-value, check, root, started, chosen, choose}
+use Rattle.rules.specs.Net.{Net, rewards}
+use Rattle.rules.specs.Play.{Marking}
+use Rattle.rules.specs.Rewards.{values}
+use Rattle.rules.specs.NetGame.{float-game, float-scale, driver-of, levels}
+use Rattle.rules.specs.Call.{Options, settings-of, choice}
+use Rattle.theory.specs.Counted.{left, recount, anew, choose-anew, choice-anew}
 use Rattle.theory.proofs.Simulation.{Both, Agree, Entries, InStep, Closed, Ends, alpha-beta-steps}
 use Rattle.theory.proofs.InStep.{Drivers, run-steps}
 use Rattle.theory.proofs.Answer.{Gives}
@@ -154,35 +159,44 @@ module _ (G : Game) (S : Settings G) where
       child-level q [] = record { equal = λ st e. refl; fits = λ st e. e }
       child-level q (t ∷ l) = record { equal = ih q .equal; fits = ih q .fits }
 
+      played-level : (y : Played Pos) → Level b (played-value G S f y) (played-value G S g y)
+      unfolding played-value
+      played-level (stopped x) = record { equal = λ st e. refl; fits = λ st e. tt }
+      played-level (to q) = record { equal = child-level q (moves q) .equal; fits = child-level q (moves q) .fits }
+
       check-level : (v : Value) (l : List ℕ) → Level b (check G S f p v l) (check G S g p v l)
-      unfolding check check-played matched
+      unfolding check matched
       check-level v [] = record { equal = λ st e. refl; fits = λ st e. e }
-      check-level v (t ∷ l) = record { equal = λ st e. go (check-level v l) (play p t) .equal st e; fits = λ st e. go (check-level v l) (play p t) .fits st e }
+      check-level v (t ∷ l) = level-then _ _ _ _ (played-level (play p t)) (λ x. match (check-level v l) (eqv G x v))
         where
           match : Level b (check G S f p v l) (check G S g p v l) → (x : Bool) → Level b (matched G S x t v (check G S f p v l)) (matched G S x t v (check G S g p v l))
           match rest true = record { equal = λ st e. refl; fits = λ st e. e }
           match rest false = record { equal = rest .equal; fits = rest .fits }
 
-          go : Level b (check G S f p v l) (check G S g p v l) → (y : Played Pos) → Level b (check-played G S f y t v (check G S f p v l)) (check-played G S g y t v (check G S g p v l))
-          go rest (stopped r) = record { equal = λ st e. refl; fits = λ st e. tt }
-          go rest (to q) = level-then _ _ _ _ (child-level q (moves q)) (λ x. match rest (eqv G x v))
+      started-level : {A : Type 0} (a : A) (h k : Value → Run G S A) → ((v : Value) → Level b (h v) (k v)) → (c : Bool) (l : List ℕ) → Level b (started G S f a h p c l) (started G S g a k p c l)
+      unfolding started root
+      started-level a h k e c [] = record { equal = λ st e. refl; fits = λ st e. e }
+      started-level a h k e true (t ∷ l) = record { equal = λ st e. refl; fits = λ st e. tt }
+      started-level {A} a h k e false (t ∷ l) = go (mover p)
+        where
+          go : (o : Option Side) → Level b (root G S f h p o) (root G S g k p o)
+          go none = record { equal = λ st e. refl; fits = λ st e. tt }
+          go (some s) = level-then _ _ _ _ (ih p) e
 
-      root-level : (o : Option Side) → Level b (root G S f p o) (root G S g p o)
-      unfolding root
-      root-level none = record { equal = λ st e. refl; fits = λ st e. tt }
-      root-level (some s) = level-then _ _ _ _ (ih p) (λ v. record {
+      chosen-level : Level b (chosen G S f p) (chosen G S g p)
+      unfolding chosen
+      chosen-level = started-level no-move _ _ (λ v. record {
         equal = λ z. check-level v (remembered G S (moves p) (get (z .memo) p) ++ moves p) .equal z;
         fits = λ z. check-level v (remembered G S (moves p) (get (z .memo) p) ++ moves p) .fits z;
-      })
-
-      chosen-level : (c : Bool) (l : List ℕ) → Level b (chosen G S f p c l) (chosen G S g p c l)
-      unfolding chosen
-      chosen-level c [] = record { equal = λ st e. refl; fits = λ st e. e }
-      chosen-level true (t ∷ l) = record { equal = λ st e. refl; fits = λ st e. tt }
-      chosen-level false (t ∷ l) = record { equal = root-level (mover p) .equal; fits = root-level (mover p) .fits }
+      }) _ (moves p)
 
   -- COUNTING: a run at a time, or one count throughout.
-  pub choose-is-counted : (δ : Driver G) (b : Option ℕ) (d : ℕ) (p : Pos) (st : State S) → Fits b (st .nodes) → choose G S δ b d p st ≡ choose-counted G S δ b d p st
-  unfolding choose choose-counted
-  choose-is-counted δ b d p st h =
-      chosen-level b _ _ (λ q. record { equal = anew-same δ b d q; fits = run-fits δ b d b q }) p _ (moves p) .equal st h
+  pub choose-anew-same : (δ : Driver G) (b : Option ℕ) (d : ℕ) (p : Pos) (st : State S) → Fits b (st .nodes) → choose-anew G S δ b d p st ≡ choose G S δ b d p st
+  unfolding choose-anew choose
+  choose-anew-same δ b d p st h =
+      chosen-level b _ _ (λ q. record { equal = anew-same δ b d q; fits = run-fits δ b d b q }) p .equal st h
+
+-- and so of a choice on a net, a call's among them
+pub choice-anew-same : (net : Net) (o : Options) (b : Option ℕ) (m : Marking) (st : State (settings-of net o)) → Fits b (st .nodes) → choice-anew net o b m st ≡ choice net o b m st
+unfolding choice
+choice-anew-same net o b m st = choose-anew-same (float-game net) (settings-of net o) (driver-of (float-game net) (float-scale net) (values (rewards net)) (o .driver)) b levels m st

@@ -13,7 +13,8 @@ use borrow.Author.Tests.{ltb-true, ltb-false}
 use Rattle.rules.specs.Game.{Game, Side, max, min, opp, Le, worst}
 use Rattle.rules.specs.Search.{Entry, window, Memory, Settings, State, Run, Search}
 use Rattle.rules.specs.Drivers.{Scale, Driver, single, scout, mtd, rung, onward, below, upto, sided, begun, stepped, scout-from, mtd-next, mtd-test, mtd-from, mtd-begin, run}
-use Rattle.theory.specs.Forces.{Lt, Forces, floor, final, Exact}
+use Rattle.rules.specs.Forces.{Forces, floor, final, Exact}
+use Rattle.theory.specs.Ends.{Lt}
 use Rattle.theory.proofs.Order.{le-refl, le-or-lt, le-lt-trans, lt-le-trans, flip-le, unflip-le, flip-lt}
 use Rattle.theory.proofs.Forces.{round, consistent, exact-of}
 use Rattle.theory.proofs.Answer.{Certified, Answer, open-window, answer-own, answer-other, Sound, get-certified, Fine, fine-map, fine-then, SoundSearch}

@@ -14,7 +14,7 @@ use Rattle.rules.specs.Limits.{max-moves}
 use Rattle.rules.specs.Game.{Game, Side, max, min, opp, Played, to, stopped, _∈_, Le, worst, eqv}
 use Rattle.rules.specs.Filter.{Verdict, keep, drop, refuse, over, wins, replied, reply-played, reply-wins, replies, replier, lost-listed, lost}
 use Rattle.rules.specs.Search.{Child, Policy}
-use Rattle.theory.specs.Forces.{Forces, final, own}
+use Rattle.rules.specs.Forces.{Forces, final, own}
 use Rattle.theory.specs.Causes.{Cause, here, mixed, wide, stops}
 use Rattle.theory.proofs.Tests.{and-true}
 use Rattle.theory.proofs.Order.{le-refl, le-antisym}

@@ -14,7 +14,7 @@ use Rattle.whole.proofs.Wholes.{whole, bits-back, to-signed, le-whole, midpoint
 use Rattle.rules.specs.Game.{Game, Values, valued, max, min}
 use Rattle.rules.specs.Memo.{Shape, memory}
 use Rattle.rules.specs.Codes.{float-number, float-code, int-bits, int-number, int-code, int-values, float-values, int-above, float-above}
-use Rattle.theory.specs.Forces.{End, bound, scored}
+use Rattle.theory.specs.Ends.{End, bound, scored}
 use Rattle.theory.proofs.Answer.{end-inside}
 use Rattle.theory.proofs.Memo.{Fitted}
 use Rattle.theory.proofs.Simulation.{Related, InStep}

@@ -10,8 +10,7 @@ use lib.Dec.{ltb}
 use Rattle.rules.specs.Game.{Game, Values, valued, Side, max, min, Played, to, stopped, eqv}
 use Rattle.rules.specs.Search.{Interval, Entry, window, Memory, Policy, Settings, Run, Search, passes}
 use Rattle.rules.specs.Drivers.{Scale, Driver, single, scout, mtd, rung, onward, point, below, upto, sided, begun, stepped, mtd-next, scout-from, mtd-test, mtd-from, mtd-begin, run}
-use Rattle.rules.specs.Choose.{Choice, no-move, no-child, key, known-move, remembered, matched, child-run, check-played, check, root, chosen}
-use Rattle.theory.specs.Counted.{choose-counted}
+use Rattle.rules.specs.Choose.{Choice, no-move, no-child, key, known-move, remembered, matched, child-run, played-value, check, root, started, chosen, choose}
 use Rattle.theory.proofs.Simulation.{Both, Intervals, Entries, window-rel, Related, InStep, Closed, S, T, Ends, Steps, StepSearch, steps-then, eqv-same, steps-value, Budgets, alpha-beta-steps}
 
 module _ (G : Game) (W : Values (G .Pos)) (Rel : G .Value → W .Value → Type 0) where
@@ -181,35 +180,39 @@ module _ (G : Game) (W : Values (G .Pos)) (μ : Memory G) (ν : Memory (valued G
     child-steps q r [] st z n = record { agree = score-rel q; near = n }
     child-steps q r (t ∷ l) st z n = ih q r st z n
 
+    played-steps : (t : ℕ) (y : Played (G .Pos)) → G .play p t ≡ y → InStepRun Rel (played-value G SG f y) (played-value HW TH g y)
+    unfolding played-value
+    played-steps t (stopped x) e st z n = record { agree = refl; near = n }
+    played-steps t (to q) e st z n = child-steps q (play-real p t q real e) (G .moves q) st z n
+
     check-steps : (v : G .Value) (x : W .Value) → Rel v x → (l : List ℕ) → InStepRun (Choices G W Rel) (check G SG f p v l) (check HW TH g p x l)
-    unfolding check check-played matched
+    unfolding check matched
     check-steps v x h [] st z n = record { agree = tt; near = n }
-    check-steps v x h (t ∷ l) st z n = go (check-steps v x h l) (G .play p t) refl
+    check-steps v x h (t ∷ l) st z n =
+        steps-then G W μ ν π Rel Alike off Rel (Choices G W Rel) _ _ _ _ (played-steps t (G .play p t) refl) (λ u w k. rw (eqv-same G W Rel (I .values) u v w x k h) (match (check-steps v x h l) (eqv HW w x))) st z n
       where
         match : InStepRun (Choices G W Rel) (check G SG f p v l) (check HW TH g p x l) → (y : Bool) → InStepRun (Choices G W Rel) (matched G SG y t v (check G SG f p v l)) (matched HW TH y t x (check HW TH g p x l))
         match rest true st z n = record { agree = (refl, h); near = n }
         match rest false st z n = rest st z n
 
-        go : InStepRun (Choices G W Rel) (check G SG f p v l) (check HW TH g p x l) → (y : Played (G .Pos)) → G .play p t ≡ y → Ends G W μ ν π Rel Alike off (Choices G W Rel) (check-played G SG f y t v (check G SG f p v l) st) (check-played HW TH g y t x (check HW TH g p x l) z)
-        go rest (stopped r) e = record { agree = refl; near = n }
-        go rest (to q) e =
-            steps-then G W μ ν π Rel Alike off Rel (Choices G W Rel) (child-run G SG f q (G .moves q)) (child-run HW TH g q (G .moves q)) _ _ (child-steps q (play-real p t q real e) (G .moves q))
-            (λ u w k. rw (eqv-same G W Rel (I .values) u v w x k h) (match rest (eqv HW w x))) st z n
-
     check-steps-at : (v : G .Value) (x : W .Value) → Rel v x → (l m : List ℕ) → l ≡ m → InStepRun (Choices G W Rel) (check G SG f p v l) (check HW TH g p x m)
     check-steps-at v x h l m e = rw e (check-steps v x h m)
 
-    chosen-steps : (b : Bool) (l : List ℕ) → InStepRun (Choices G W Rel) (chosen G SG f p b l) (chosen HW TH g p b l)
-    unfolding chosen root
-    chosen-steps b [] st z n = record { agree = tt; near = n }
-    chosen-steps true (t ∷ l) st z n = record { agree = refl; near = n }
-    chosen-steps false (t ∷ l) st z n = go (G .mover p)
+    started-steps : {A C : Type 0} (P : A → C → Type 0) (a : A) (c : C) → P a c → (h : G .Value → Run G SG A) (k : W .Value → Run HW TH C) → ((v : G .Value) (x : W .Value) → Rel v x → InStepRun P (h v) (k x)) →
+        (b : Bool) (l : List ℕ) → InStepRun P (started G SG f a h p b l) (started HW TH g c k p b l)
+    unfolding started root
+    started-steps P a c pac h k e b [] st z n = record { agree = pac; near = n }
+    started-steps P a c pac h k e true (t ∷ l) st z n = record { agree = refl; near = n }
+    started-steps P a c pac h k e false (t ∷ l) st z n = go (G .mover p)
       where
-        go : (o : Option Side) → Ends G W μ ν π Rel Alike off (Choices G W Rel) (root G SG f p o st) (root HW TH g p o z)
+        go : (o : Option Side) → Ends G W μ ν π Rel Alike off P (root G SG f h p o st) (root HW TH g k p o z)
         go none = record { agree = refl; near = n }
-        go (some s) =
-            steps-then G W μ ν π Rel Alike off Rel (Choices G W Rel) (f p) (g p) _ _ (ih p real)
-            (λ v x h a b k. check-steps-at v x h _ _ (ap (λ (y : List ℕ). y ++ G .moves p) (remembered-same (G .moves p) _ _ (get-rel (a .memo) (b .memo) p real (k .memo-alike)))) a b k) st z n
+        go (some s) = steps-then G W μ ν π Rel Alike off Rel P (f p) (g p) _ _ (ih p real) e st z n
+
+    chosen-steps : InStepRun (Choices G W Rel) (chosen G SG f p) (chosen HW TH g p)
+    unfolding chosen
+    chosen-steps = started-steps (Choices G W Rel) no-move no-move tt _ _
+        (λ v x h a b k. check-steps-at v x h _ _ (ap (λ (y : List ℕ). y ++ G .moves p) (remembered-same (G .moves p) _ _ (get-rel (a .memo) (b .memo) p real (k .memo-alike)))) a b k) _ (G .moves p)
 
 -- The whole call, with one budget, runs in step.
 module _ (G : Game) (W : Values (G .Pos)) (μ : Memory G) (ν : Memory (valued G W)) (π : Policy (G .Pos)) (Rel : G .Value → W .Value → Type 0) (Alike : μ .Memo → ν .Memo → Type 0)
@@ -219,8 +222,8 @@ module _ (G : Game) (W : Values (G .Pos)) (μ : Memory G) (ν : Memory (valued G
   same-budget none k = refl
   same-budget (some b) k = let e : 0 + k ≡ k = omega arith in ap (ltb b) e
 
-  pub choose-counted-steps : (δ : Driver G) (ε : Driver (valued G W)) → Drivers G W Rel δ ε → (b : Option ℕ) (d : ℕ) (p : G .Pos) → Real p →
-      Steps G W μ ν π Rel Alike 0 (Choices G W Rel) (choose-counted G (S G W μ ν π Rel Alike) δ b d p) (choose-counted (valued G W) (T G W μ ν π Rel Alike) ε b d p)
-  unfolding choose-counted
-  choose-counted-steps δ ε h b d p real =
-      chosen-steps G W μ ν π Rel Alike Real I K 0 _ _ (λ q r. run-steps G W μ ν π Rel Alike Real I K 0 δ ε h _ _ (alpha-beta-steps G W μ ν π Rel Alike Real I K 0 b b (same-budget b) d) q r) p real _ (G .moves p)
+  pub choose-steps : (δ : Driver G) (ε : Driver (valued G W)) → Drivers G W Rel δ ε → (b : Option ℕ) (d : ℕ) (p : G .Pos) → Real p →
+      Steps G W μ ν π Rel Alike 0 (Choices G W Rel) (choose G (S G W μ ν π Rel Alike) δ b d p) (choose (valued G W) (T G W μ ν π Rel Alike) ε b d p)
+  unfolding choose
+  choose-steps δ ε h b d p real =
+      chosen-steps G W μ ν π Rel Alike Real I K 0 _ _ (λ q r. run-steps G W μ ν π Rel Alike Real I K 0 δ ε h _ _ (alpha-beta-steps G W μ ν π Rel Alike Real I K 0 b b (same-budget b) d) q r) p real

@@ -8,8 +8,8 @@ use mathlib.Core.Logic.{inl}
 use Prim.Native.Nat.{ℕ}
 use Rattle.rules.specs.Game.{Game, max, min, Le}
 use Rattle.rules.specs.Minimax.{Worth}
-use Rattle.rules.specs.Search.{Interval, value, Memory, Settings, State, alpha-beta}
-use Rattle.theory.specs.Forces.{Lt}
+use Rattle.rules.specs.Search.{Interval, value, Settings, State, alpha-beta}
+use Rattle.theory.specs.Ends.{Lt}
 use Rattle.theory.proofs.Forces.{consistent, exact-unique}
 use Rattle.theory.proofs.Order.{unflip-le}
 use Rattle.theory.proofs.Minimax.{worth-exact}

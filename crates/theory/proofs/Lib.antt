@@ -1,10 +1,12 @@
--- What is proved of the definitions of crate rules. `Demand3` is to be read first: demand 3 and the meaning of each answer, for every accepted input.
+-- What is proved of the definitions of crate rules. `Promised` is to be read first: the public contract holds of the call as it is defined. `Demand3`: demand 3 and the meaning
+-- of each answer, from any marking and sound state, and for every accepted input.
 -- `Theorems` has the results for the call over any game, memo, order and scale that meets `Laws`.
 -- Theorem 1, `Sound`: fail-soft alpha-beta is sound. Theorem 2, `Budget` and `Runs`: the budget is exact. Theorem 3, `Drivers`: a run gives the exact
 -- value. Theorem 4, `Choose` and `Call`: the key's child has the root's value, under the premises on play the minimax value.
--- `Causes`: a refusal from the state has a cause in play. `Memo`: the memo meets `Laws`. `Counting`: a count for each run, or one throughout. `Simulation`, `InStep`, `Floats`: f64 in step with integers.
+-- `Causes`: a refusal from the state has a cause in play. `Memo`: the memo meets `Laws`. `Counting`: a count for each run, as 01 has it, is the same as one throughout. `Simulation`, `InStep`, `Floats`: f64 in step with integers.
 -- `NetCall`: the game, the settings and the drivers of a net within the limits meet all that `Theorems` asks; `SheetLimits`: an accepted sheet gives such a net.
 -- Assumes nothing.
+pub mod Promised
 pub mod Demand3
 pub mod Answers
 pub mod KnuthMoore

@@ -1,4 +1,4 @@
--- A memo that keeps bounds in its rows enters nothing into its dictionary: after a call from the cleared memo it is empty.
+-- A memo that keeps bounds in its rows enters nothing into its dictionary: where it is empty before a choice it is empty after it.
 -- Assumes nothing.
 use mathlib.Core.Path.{_≡_, refl, _∙_}
 use mathlib.Core.Bool.{Bool, true, false, true≢false}
@@ -6,19 +6,17 @@ use mathlib.Core.Option.{Option}
 use mathlib.Core.List.{List, []}
 use Prim.Native.Nat.{ℕ, max as maxℕ}
 use Rattle.words.specs.Words.{bit-length}
-use Rattle.rules.specs.Limits.{first-generation}
 use Rattle.rules.specs.Game.{Game, to}
 use Rattle.rules.specs.Search.{Entry, merge, Policy, Settings, State}
-use Rattle.rules.specs.Memo.{Shape, Memo, cleared, Code, memory, locate, slot, old-work, put, found, kept, memo-store}
+use Rattle.rules.specs.Memo.{Shape, Memo, Code, memory, locate, slot, old-work, put, found, kept, memo-store}
 use Rattle.rules.specs.Drivers.{Driver}
 use Rattle.rules.specs.Choose.{choose}
 use Rattle.theory.proofs.Answer.{Sound}
-use Rattle.theory.proofs.Counting.{Fits}
-use Rattle.theory.proofs.Memo.{Fitted, memo-tabled, cleared-sound}
-use Rattle.theory.proofs.Theorems.{choose-sound}
+use Rattle.theory.proofs.Memo.{Fitted, Telling, memo-tabled}
+use Rattle.theory.proofs.Choose.{choose-sound}
 use Rattle.theory.proofs.Laws.{Rules, Tabled, Orderly, Lawful, Driven}
 
-module _ (s : Shape) (G : Game) (C : Code (G .Value)) (key : G .Pos → List ℕ) (Ok : G .Value → Type 0) (Real : G .Pos → Type 0) (F : Fitted s G C key Ok Real) (R : Rules G)
+module _ (s : Shape) (G : Game) (C : Code (G .Value)) (key : G .Pos → List ℕ) (Ok : G .Value → Type 0) (Real : G .Pos → Type 0) (F : Fitted s G C key Ok Real) (K : Telling s G key Real) (R : Rules G)
     (keeps : (p : G .Pos) (t : ℕ) (q : G .Pos) → Real p → G .play p t ≡ to q → Real q) (wide : s .compact ≡ false) where
   store-dict : (m : Memo) (k legal : List ℕ) (e : Entry (G .Value)) (nodes : ℕ) → memo-store s G C m k legal e nodes .dict ≡ m .dict
   unfolding memo-store kept put
@@ -30,7 +28,7 @@ module _ (s : Shape) (G : Game) (C : Code (G .Value)) (key : G .Pos → List ℕ
       go false h = refl
 
   abbrev tabled : Tabled G (memory s G C key)
-  tabled = memo-tabled s G C key Ok Real F R keeps
+  tabled = memo-tabled s G C key Ok Real F K R keeps
 
   -- the same table, of which is known that the dictionary is empty
   abbrev wide-tabled : Tabled G (memory s G C key)
@@ -51,9 +49,6 @@ module _ (s : Shape) (G : Game) (C : Code (G .Value)) (key : G .Pos → List ℕ
     abbrev law : Lawful G (record { memory = memory s G C key; policy = π })
     law = record { rules = R; table = wide-tabled; order = o }
 
-    start-sound : Sound G settings law (cleared first-generation s)
-    start-sound = let h = cleared-sound s G C key Ok Real F R keeps π o in record { well = (h .well, refl); rows = h .rows }
-
-    pub choose-no-dict : (δ : Driver G) → Driven G δ → (b : Option ℕ) (d : ℕ) (p : G .Pos) (st : State settings) → Real p → st .memo ≡ cleared first-generation s → Fits b (st .nodes) →
-        choose G settings δ b d p st .1 .memo .dict ≡ []
-    choose-no-dict δ t b d p st r e f = choose-sound G settings law δ t b d p st r (rw e start-sound) f .sound .well .1
+    pub choose-no-dict : (δ : Driver G) → Driven G δ → (b : Option ℕ) (d : ℕ) (p : G .Pos) (st : State settings) → Real p →
+        Sound G settings (record { rules = R; table = tabled; order = o }) (st .memo) → st .memo .dict ≡ [] → choose G settings δ b d p st .1 .memo .dict ≡ []
+    choose-no-dict δ t b d p st r h e = choose-sound G settings law δ t b d p st r (record { well = (h .well, e); rows = h .rows }) .sound .well .1

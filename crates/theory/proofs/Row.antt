@@ -9,7 +9,8 @@ use Prim.Native.Nat.{ℕ}
 use Rattle.rules.specs.Game.{Game, Side, opp, to, _∈_, leq, Le}
 use Rattle.rules.specs.Minimax.{pick}
 use Rattle.rules.specs.Search.{Child, window, Settings, State, Run, Search, Best, improve, ended, row}
-use Rattle.theory.specs.Forces.{Lt, End, Forces, own}
+use Rattle.rules.specs.Forces.{Forces, own}
+use Rattle.theory.specs.Ends.{Lt, End}
 use Rattle.theory.proofs.Order.{le-refl, le-trans, lt-le, lt-not-le, le-lt-trans, flip-le, pick-elim}
 use Rattle.theory.proofs.Forces.{weaken}
 use Rattle.theory.proofs.Answer.{Answer, Flat, Gap, flat-forces, open-window, answer-own, answer-other, Sound, Fine, fine-map, fine-then, SoundSearch}

@@ -9,8 +9,7 @@ use lib.Dec.{ltb}
 use Rattle.rules.specs.Game.{Game, Side, Played, to, stopped, eqv}
 use Rattle.rules.specs.Search.{Entry, window, Memory, Settings, Run, Search, alpha-beta}
 use Rattle.rules.specs.Drivers.{Scale, Driver, single, scout, mtd, rung, sided, begun, stepped, scout-from, mtd-next, mtd-test, mtd-from, mtd-begin, run}
-use Rattle.rules.specs.Choose.{child-run, matched, check-played, check, remembered, root, chosen}
-use Rattle.theory.specs.Counted.{choose-counted}
+use Rattle.rules.specs.Choose.{no-move, child-run, matched, played-value, check, remembered, root, started, chosen, choose}
 use Rattle.theory.proofs.Budget.{Budgeted, budgeted-pure, budgeted-then, BudgetedSearch, alpha-beta-budgeted}
 
 -- The budget.
@@ -76,35 +75,39 @@ module _ (G : Game) (S : Settings G) (B : ℕ) where
     child-budgeted q [] = budgeted-pure G S B _ (λ st. refl) (λ st. tt)
     child-budgeted q (t ∷ l) = record { unspent = ih q .unspent; grows = ih q .grows; within = ih q .within }
 
+    played-budgeted : (y : Played Pos) → Budgeted G S B (played-value G S f y) (played-value G S g y)
+    unfolding played-value
+    played-budgeted (stopped x) = budgeted-pure G S B _ (λ st. refl) (λ st. tt)
+    played-budgeted (to q) = record { unspent = child-budgeted q (moves q) .unspent; grows = child-budgeted q (moves q) .grows; within = child-budgeted q (moves q) .within }
+
     check-budgeted : (v : Value) (l : List ℕ) → Budgeted G S B (check G S f p v l) (check G S g p v l)
-    unfolding check check-played matched
+    unfolding check matched
     check-budgeted v [] = budgeted-pure G S B _ (λ st. refl) (λ st. tt)
-    check-budgeted v (t ∷ l) = go (check-budgeted v l) (play p t)
+    check-budgeted v (t ∷ l) = budgeted-then G S B _ _ _ _ (played-budgeted (play p t)) (λ x. match (check-budgeted v l) (eqv G x v))
       where
         match : Budgeted G S B (check G S f p v l) (check G S g p v l) → (x : Bool) → Budgeted G S B (matched G S x t v (check G S f p v l)) (matched G S x t v (check G S g p v l))
         match rest true = budgeted-pure G S B _ (λ st. refl) (λ st. tt)
         match rest false = record { unspent = rest .unspent; grows = rest .grows; within = rest .within }
 
-        go : Budgeted G S B (check G S f p v l) (check G S g p v l) → (y : Played Pos) → Budgeted G S B (check-played G S f y t v (check G S f p v l)) (check-played G S g y t v (check G S g p v l))
-        go rest (stopped r) = budgeted-pure G S B _ (λ st. refl) (λ st. tt)
-        go rest (to q) = budgeted-then G S B _ _ _ _ (child-budgeted q (moves q)) (λ x. match rest (eqv G x v))
+    started-budgeted : {A : Type 0} (a : A) (h k : Value → Run G S A) → ((v : Value) → Budgeted G S B (h v) (k v)) → (b : Bool) (l : List ℕ) → Budgeted G S B (started G S f a h p b l) (started G S g a k p b l)
+    unfolding started root
+    started-budgeted {A} a h k e b [] = budgeted-pure G S B _ (λ st. refl) (λ st. tt)
+    started-budgeted {A} a h k e true (t ∷ l) = budgeted-pure G S B _ (λ st. refl) (λ st. tt)
+    started-budgeted {A} a h k e false (t ∷ l) = go (mover p)
+      where
+        go : (o : Option Side) → Budgeted G S B (root G S f h p o) (root G S g k p o)
+        go none = budgeted-pure G S B _ (λ st. refl) (λ st. tt)
+        go (some s) = budgeted-then G S B _ _ _ _ (ih p) e
 
-    root-budgeted : (o : Option Side) → Budgeted G S B (root G S f p o) (root G S g p o)
-    unfolding root
-    root-budgeted none = budgeted-pure G S B _ (λ st. refl) (λ st. tt)
-    root-budgeted (some s) = budgeted-then G S B _ _ _ _ (ih p) (λ v. record {
+    chosen-budgeted : Budgeted G S B (chosen G S f p) (chosen G S g p)
+    unfolding chosen
+    chosen-budgeted = started-budgeted no-move _ _ (λ v. record {
       unspent = λ z. check-budgeted v (remembered G S (moves p) (get (z .memo) p) ++ moves p) .unspent z;
       grows = λ z. check-budgeted v (remembered G S (moves p) (get (z .memo) p) ++ moves p) .grows z;
       within = λ z. check-budgeted v (remembered G S (moves p) (get (z .memo) p) ++ moves p) .within z;
-    })
-
-    chosen-budgeted : (b : Bool) (l : List ℕ) → Budgeted G S B (chosen G S f p b l) (chosen G S g p b l)
-    unfolding chosen
-    chosen-budgeted b [] = budgeted-pure G S B _ (λ st. refl) (λ st. tt)
-    chosen-budgeted true (t ∷ l) = budgeted-pure G S B _ (λ st. refl) (λ st. tt)
-    chosen-budgeted false (t ∷ l) = root-budgeted (mover p)
+    }) _ (moves p)
 
   -- THEOREM 2 for the whole call: N is the count that it reaches with no budget.
-  pub choose-counted-budgeted : (δ : Driver G) (d : ℕ) (p : Pos) → Budgeted G S B (choose-counted G S δ none d p) (choose-counted G S δ (some B) d p)
-  unfolding choose-counted
-  choose-counted-budgeted δ d p = chosen-budgeted _ _ (λ q. run-budgeted (alpha-beta G S none d) (alpha-beta G S (some B) d) (alpha-beta-budgeted G S B d) q δ) p _ (moves p)
+  pub choose-budgeted : (δ : Driver G) (d : ℕ) (p : Pos) → Budgeted G S B (choose G S δ none d p) (choose G S δ (some B) d p)
+  unfolding choose
+  choose-budgeted δ d p = chosen-budgeted _ _ (λ q. run-budgeted (alpha-beta G S none d) (alpha-beta G S (some B) d) (alpha-beta-budgeted G S B d) q δ) p

@@ -10,7 +10,8 @@ use borrow.Author.Tests.{not-true, not-false}
 use Rattle.rules.specs.Game.{Game, Side, max, min, opp, Le, worst}
 use Rattle.rules.specs.Search.{window}
 use Rattle.rules.specs.Drivers.{Scale, rung, onward, point, below, upto}
-use Rattle.theory.specs.Forces.{Lt, End, bound, scored, Forces}
+use Rattle.rules.specs.Forces.{Forces}
+use Rattle.theory.specs.Ends.{Lt, End, bound, scored}
 use Rattle.theory.proofs.Order.{le-refl, le-trans, lt-le, lt-not-le, lt-le-trans, flip-le, flip-lt}
 use Rattle.theory.proofs.Forces.{round}
 use Rattle.theory.proofs.Laws.{Rules, Scaled}

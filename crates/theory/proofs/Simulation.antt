@@ -15,7 +15,7 @@ use Rattle.rules.specs.Limits.{max-moves}
 use Rattle.rules.specs.Game.{Game, Values, valued, Side, max, min, opp, Played, to, stopped, _∈_, leq, worst, eqv}
 use Rattle.rules.specs.Minimax.{pick}
 use Rattle.rules.specs.Filter.{Verdict, keep, drop, refuse, over, wins, replied, reply-played, reply-wins, replies, replier, lost-listed, lost}
-use Rattle.rules.specs.Search.{Interval, Entry, Child, Best, Recalled, known, unknown, Expanded, halted, won, children, add, expanded, sifted, Outcome, value, spent, refused, edge, window, meet, Memory, Policy, Settings, State, Run, Search, follow, then, tick, recalled, recall, played, expand, sift, filtered, improve, ended, row, proved, finish, searched, turned, listed, opened, node, passes, budgeted, counted, too-deep, alpha-beta}
+use Rattle.rules.specs.Search.{Interval, Entry, Child, Best, Recalled, known, unknown, Expanded, halted, won, children, add, expanded, sifted, Outcome, value, spent, refused, edge, window, meet, Memory, Policy, Settings, State, Run, Search, follow, then, tick, recalled, recall, played, expand, sift, filtered, improve, ended, row, proved, finish, searched, turned, listed, opened, node, passes, budgeted, ticked, counted, too-deep, alpha-beta}
 
 -- two options, both none or both related
 abbrev pub Both : {A C : Type 0} → (A → C → Type 0) → Option A → Option C → Type 0
@@ -409,7 +409,7 @@ module _ (G : Game) (W : Values (G .Pos)) (μ : Memory G) (ν : Memory (valued G
       Budgets b c = (k : ℕ) → passes G S b (off + k) ≡ passes H T c k
 
       counted-steps : (b c : Option ℕ) → Budgets b c → (f : Search G S) (g : Search H T) → StepSearch Real off f g → StepSearch Real off (counted G S b f) (counted H T c g)
-      unfolding counted budgeted
+      unfolding counted ticked budgeted
       counted-steps b c bc f g ih p w x r h st z n = rw (same-test) (go (passes H T c (suc (z .nodes))))
         where
           after : Near off (tick G S st) (tick H T z)
@@ -418,7 +418,7 @@ module _ (G : Game) (W : Values (G .Pos)) (μ : Memory G) (ν : Memory (valued G
           same-test : passes G S b (suc (st .nodes)) ≡ passes H T c (suc (z .nodes))
           same-test = let e : suc (st .nodes) ≡ off + suc (z .nodes) = omega (arith, n .nodes-off) in ap (passes G S b) e ∙ bc (suc (z .nodes))
 
-          go : (y : Bool) → Ends off Rel (budgeted G S y f p w (tick G S st)) (budgeted H T y g p x (tick H T z))
+          go : (y : Bool) → Ends off Rel (budgeted G S y (f p w) (tick G S st)) (budgeted H T y (g p x) (tick H T z))
           go true = record { agree = tt; near = after }
           go false = ih p w x r h (tick G S st) (tick H T z) after
 

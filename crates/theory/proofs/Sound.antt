@@ -8,8 +8,9 @@ use mathlib.Core.List.{List, [], _∷_}
 use mathlib.Core.Logic.{_⊎_, inl, inr}
 use Prim.Native.Nat.{ℕ, zero, suc}
 use Rattle.rules.specs.Game.{Game, Side, max, min, opp, _∈_, Le, worst, eqv}
-use Rattle.rules.specs.Search.{Interval, Entry, Child, Best, meet, edge, Memory, Policy, Settings, State, Search, tick, recalled, recall, Expanded, halted, won, children, proved, finish, searched, turned, listed, opened, node, passes, budgeted, counted, too-deep, alpha-beta}
-use Rattle.theory.specs.Forces.{Lt, End, bound, scored, Forces, floor, final, own, Exact}
+use Rattle.rules.specs.Search.{Interval, Entry, Child, Best, meet, edge, Memory, Policy, Settings, State, Search, tick, recalled, recall, Expanded, halted, won, children, proved, finish, searched, turned, listed, opened, node, passes, budgeted, ticked, counted, too-deep, alpha-beta}
+use Rattle.rules.specs.Forces.{Forces, floor, final, own, Exact}
+use Rattle.theory.specs.Ends.{Lt, End, bound, scored}
 use Rattle.theory.proofs.Order.{le-refl, le-antisym, lt-not-le, le-lt-trans, flip-lt}
 use Rattle.theory.proofs.Forces.{consistent, exact-of}
 use Rattle.theory.proofs.Answer.{Certified, Answer, Open, end-inside, flat-forces, open-edge, certified-exact, answer-of, answer-exact, answer-meet, open-meet, Sound, get-certified, store-sound, Fine, fine-map, fine-then, SoundSearch}
@@ -149,10 +150,10 @@ module _ (G : Game) (S : Settings G) (M : Lawful G S) where
   node-sound f ih p w st real sound o = opened-sound p real f ih w (get (st .memo) p) st refl o sound
 
   counted-sound : (b : Option ℕ) (f : Search G S) → SoundSearch G S M f → SoundSearch G S M (counted G S b f)
-  unfolding counted budgeted
+  unfolding counted ticked budgeted
   counted-sound b f h p w st real sound o = go (passes G S b (suc (st .nodes)))
     where
-      go : (x : Bool) → Fine G S M (Answer G w p) (budgeted G S x f p w (tick G S st))
+      go : (x : Bool) → Fine G S M (Answer G w p) (budgeted G S x (f p w) (tick G S st))
       go true = record { sound = sound; gives = tt }
       go false = h p w (tick G S st) real sound o
 

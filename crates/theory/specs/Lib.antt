@@ -1,10 +1,8 @@
--- Notions of the proofs: what a side can force, what the public contract promises of an answer, the premises on play, the causes of refusals and their conditions in 01's words, choosing with one count,
--- key words of markings.
+-- Notions of the proofs: values that play can end in, the premises on play by levels, the causes of refusals, choosing as 01 counts it, key words of markings. (What a side can
+-- force, the conditions of refusals and what the public contract promises stand in crate rules.)
 -- Assumes nothing.
-pub mod Forces
+pub mod Ends
 pub mod Regular
 pub mod Causes
 pub mod Counted
 pub mod Marking
-pub mod Conditions
-pub mod Promise

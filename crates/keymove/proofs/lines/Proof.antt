@@ -2,6 +2,7 @@
 use mathlib.Core.Path.{sym, ap, ap₂, _∙_}
 use mathlib.Core.List.{List, [], _∷_}
 use Prim.Native.Nat.{ℕ}
+use Rattle.rules.specs.declared.Answer.{Answer}
 use Rattle.rules.specs.Answer.{report}
 use Rattle.rules.specs.Call.{Result, call, asked}
 use borrow.Author.Needs.{needs}
@@ -30,7 +31,7 @@ returns : tie.Need-returns
 returns c =
     let p = c .before .before .before .before .before .before .before .before .before .before .before .before .before .before .before .before in
     let w = c .before .before .write-report .ensures in (
-      w .0 ∙ ap (λ (d : Result). report (d .answer)) (sym (c .before .before .before .before .before .before .before .before .choose .ensures .0))
+      w .0 ∙ ap (λ (d : Result Answer). report (d .answer)) (sym (c .before .before .before .before .before .before .before .before .choose .ensures .is-call))
           ∙ ap₂ (λ (x y : List ℕ). report (call (asked (p .args .sheet .now) 1000 1024 1 1 (0 ∷ 1 ∷ 2 ∷ []) x y) .answer)) (p .pre .0) (p .pre .1),
       w .2,
     )

@@ -24,7 +24,7 @@ same-length-3 : tie.Need-same-length-3
 same-length-3 c = search needs
 
 returns-2 : tie.Need-returns-2
-returns-2 c = let c8 = c .before .before .before .before .before .before .before .before in let c11 = c8 .before .before .before in let c17 = c11 .before .before .before .before .before .before in entry-full (asked (c17 .args .sheet .now) (c17 .args .budget) (c17 .args .entries) (c17 .args .driver) (c17 .args .filters) (c17 .args .chain .now) (c17 .args .words .now) (c17 .args .tags .now)) (c17 .args .out .now) _ _ _ _ (c11 .if1 .left) (c .before .before .encode .ensures) (c8 .choose .ensures .0)
+returns-2 c = let c8 = c .before .before .before .before .before .before .before .before in let c11 = c8 .before .before .before in let c17 = c11 .before .before .before .before .before .before in entry-full (asked (c17 .args .sheet .now) (c17 .args .budget) (c17 .args .entries) (c17 .args .driver) (c17 .args .filters) (c17 .args .chain .now) (c17 .args .words .now) (c17 .args .tags .now)) (c17 .args .out .now) _ _ _ _ (c11 .if1 .left) (c .before .before .encode .ensures) (c8 .choose .ensures .is-call)
 
 pub keymove-choose-spec : {M : Type 1} → statement M
 keymove-choose-spec =
