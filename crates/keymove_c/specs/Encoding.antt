@@ -5,20 +5,20 @@ use Rattle.std.specs.Float.{nan, inf, fin, binary64}
 use Rattle.std.specs.Float.Ieee.{to_bits}
 use Rattle.rules.specs.declared.Answer.{Answer}
 use Rattle.rules.specs.declared.Answer.TheVariants.{Exact, None, Spent, Refused}
-use Rattle.rules.specs.Answer.{refusal-number}
+use Rattle.rules.specs.Answer.{refusal_number}
 use Rattle.rules.specs.Call.{Request, call}
 
 -- the bits of a value, 0 for a NaN, which no call answers
-abbrev pub value-bits : Float → ℕ
-value-bits nan = 0
-value-bits (inf s) = to_bits binary64 (inf s)
-value-bits (fin s m e) = to_bits binary64 (fin s m e)
+abbrev pub value_bits : Float → ℕ
+value_bits nan = 0
+value_bits (inf s) = to_bits binary64 (inf s)
+value_bits (fin s m e) = to_bits binary64 (fin s m e)
 
 abbrev pub encoded : Answer → List ℕ
-encoded (Exact t v n) = 0 ∷ t ∷ value-bits v ∷ n ∷ []
+encoded (Exact t v n) = 0 ∷ t ∷ value_bits v ∷ n ∷ []
 encoded None = 1 ∷ 0 ∷ 0 ∷ 0 ∷ []
 encoded (Spent n) = 2 ∷ 0 ∷ 0 ∷ n ∷ []
-encoded (Refused x l n) = 3 ∷ refusal-number x ∷ l ∷ n ∷ []
+encoded (Refused x l n) = 3 ∷ refusal_number x ∷ l ∷ n ∷ []
 
 -- What the entry leaves: the words for the answer, the memo's words and the tags. With fewer than four words for the answer it leaves all as it was.
 

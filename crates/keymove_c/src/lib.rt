@@ -1,13 +1,13 @@
 // The call for programs in C and Rust: the arguments of game::choose, and four words for the answer (specs/Encoding). A slice is a pointer and a length.
 ghost use Rattle.std.specs.Prelude.{◌≡◌, [], ◌∷◌, ◌++◌, ◌≤◌, length, take, drop};
-ghost use Rattle.keymove_c.specs.Encoding.{value-bits, encoded, served, entry_of};
+ghost use Rattle.keymove_c.specs.Encoding.{value_bits, encoded, served, entry_of};
 ghost use Rattle.rules.specs.Call.{asked};
 
 use rules::Answer;
 
 // The bits of a value, 0 for a NaN.
 fn bits_of(v: f64) -> u64
-    ensures { result ≡ value-bits v }
+    ensures { result ≡ value_bits v }
 {
     if v <= v { f64::to_bits(v) } else { 0 }
 }

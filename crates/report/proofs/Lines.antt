@@ -6,26 +6,26 @@ use Rattle.rules.specs.declared.Refusal.{Refusal}
 use Rattle.rules.specs.declared.Answer.{Answer}
 use Rattle.rules.specs.declared.Answer.TheVariants.{Exact, None, Spent, Refused}
 use Rattle.rules.specs.Text.{bytes}
-use Rattle.rules.specs.Answer.{refusal-number, digits, shown, report}
+use Rattle.rules.specs.Answer.{refusal_number, digits, shown, report}
 use Rattle.report.specs.Placed.{Placed}
 use Rattle.report.specs.Line.{ending, printed}
-use Rattle.report.proofs.Placing.{placed-then, placed_first, placed-length}
+use Rattle.report.proofs.Placing.{placed_then, placed_first, placed_length}
 
-pub exact-line : (t : ℕ) (v : Float) (n : ℕ) → printed (Exact t v n) ≡ bytes "exact " ++ (shown (some (pos t)) ++ (bytes " " ++ (shown (some (to_signed 63 v)) ++ ending n)))
+pub exact_line : (t : ℕ) (v : Float) (n : ℕ) → printed (Exact t v n) ≡ bytes "exact " ++ (shown (some (pos t)) ++ (bytes " " ++ (shown (some (to_signed 63 v)) ++ ending n)))
 unfolding printed
-exact-line t v n = refl
+exact_line t v n = refl
 
-pub spent-line : (n : ℕ) → printed (Spent n) ≡ bytes "spent - -" ++ ending n
+pub spent_line : (n : ℕ) → printed (Spent n) ≡ bytes "spent - -" ++ ending n
 unfolding printed shown
-spent-line n = refl
+spent_line n = refl
 
-pub none-line : printed None ≡ bytes "none - - 0\n"
+pub none_line : printed None ≡ bytes "none - - 0\n"
 unfolding printed shown digits
-none-line = refl
+none_line = refl
 
-pub refused-line : (x : Refusal) (l n : ℕ) → printed (Refused x l n) ≡ bytes "refused " ++ (shown (some (pos (refusal-number x))) ++ (bytes " " ++ (shown (some (pos l)) ++ ending n)))
+pub refused_line : (x : Refusal) (l n : ℕ) → printed (Refused x l n) ≡ bytes "refused " ++ (shown (some (pos (refusal_number x))) ++ (bytes " " ++ (shown (some (pos l)) ++ ending n)))
 unfolding printed
-refused-line x l n = refl
+refused_line x l n = refl
 
 -- the heading and the line
 both : (a : Answer) → report a ≡ bytes "answer move value nodes\n" ++ printed a
@@ -38,6 +38,6 @@ both (Refused x l n) = simp append_assoc
 pub reported : {b a c : List ℕ} {r q : ℕ} {x y : Answer} → x ≡ y → Placed b a 0 (bytes "answer move value nodes\n") r → Placed a c r (printed y) q
     → (take q c ≡ report x) × (drop q c ≡ drop q b) × (q ≤ length c)
 reported {b} {a} {c} {r} {q} {x} {y} e p o =
-    let w = placed-then p o in
+    let w = placed_then p o in
     let f = placed_first w in
-    (f.0 ∙ rw (e, both y), f.1, omega (arith, placed-length w, w.fits))
+    (f.0 ∙ rw (e, both y), f.1, omega (arith, placed_length w, w.fits))

@@ -2,7 +2,7 @@
 ghost use Rattle.std.specs.Prelude.{◌≡◌, ℕ, suc, ◌+◌, ◌^◌, ◌<◌, ◌≤◌, ◌++◌, length, take, drop, pos, unsigned_abs};
 ghost use Rattle.std.specs.Float.Ieee.{to_signed};
 ghost use Rattle.std.proofs.Math.Option.{some};
-ghost use Rattle.rules.specs.Answer.{refusal-number, digits, shown, report};
+ghost use Rattle.rules.specs.Answer.{refusal_number, digits, shown, report};
 ghost use Rattle.rules.specs.declared.Answer.TheVariants.{Exact, Spent, Refused};
 ghost use Rattle.report.specs.Placed.{Placed};
 ghost use Rattle.report.specs.Line.{ending, printed};
@@ -11,7 +11,7 @@ use rules::{Answer, Refusal};
 
 // 01's number of a refusal.
 pub fn number_of(refusal: Refusal) -> u64
-    ensures { result ≡ refusal-number refusal }
+    ensures { result ≡ refusal_number refusal }
 {
     match refusal {
         Refusal::Sheet => 1,

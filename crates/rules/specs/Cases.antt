@@ -9,13 +9,13 @@ use Rattle.rules.specs.Play.{Marking, enabled, fire, start}
 use Rattle.rules.specs.Answer.{report}
 use Rattle.rules.specs.Call.{asked, call}
 
-abbrev pub first-sheet : List ℕ
-first-sheet =
+abbrev pub first_sheet : List ℕ
+first_sheet =
     bytes
     "row at place n cap\nsize 2 3 - -\nmark - 0 1 -\npay - 1 1 -\npay - 2 -1 -\nturn 0 - 1 -\nturn 1 - 1 -\nin 0 0 1 -\nout 0 1 1 -\nin 1 0 1 -\nout 1 2 1 -\n"
 
-abbrev pub two-plies : List ℕ
-two-plies =
+abbrev pub two_plies : List ℕ
+two_plies =
     bytes "row at place n cap\nsize 2 3 - -\nmark - 0 1 -\npay - 2 1 -\nturn 0 - 1 -\nturn 1 - -1 -\nin 0 0 1 -\nout 0 1 1 -\nin 1 1 1 -\nout 1 2 1 -\n"
 
 -- A call with chain 0 1 2 and memory enough for 1,024 entries of these nets, and the second line that it prints.
@@ -41,17 +41,17 @@ abbrev pub expected : Case → List ℕ
 expected c = bytes "answer move value nodes\n" ++ bytes c.line ++ bytes "\n"
 
 -- That sheet: budget 2, 1 and 0; no filter; single with must-win; MTD. Two plies: single, must-win; budget 3; a memo of one entry.
-abbrev pub key-cases : List Case
-key-cases =
-    case first-sheet 2 1024 1 1 "exact 0 1 2"
-    ∷ case first-sheet 1 1024 1 1 "spent - - 2"
-    ∷ case first-sheet 0 1024 1 1 "spent - - 1"
-    ∷ case first-sheet 1000 1024 1 0 "exact 0 1 3"
-    ∷ case first-sheet 1000 1024 0 1 "exact 0 1 1"
-    ∷ case first-sheet 1000 1024 2 1 "exact 0 1 1"
-    ∷ case two-plies 1000 1024 0 1 "exact 0 1 4"
-    ∷ case two-plies 3 1024 0 1 "spent - - 4"
-    ∷ case two-plies 1000 1 0 1 "exact 0 1 5"
+abbrev pub key_cases : List Case
+key_cases =
+    case first_sheet 2 1024 1 1 "exact 0 1 2"
+    ∷ case first_sheet 1 1024 1 1 "spent - - 2"
+    ∷ case first_sheet 0 1024 1 1 "spent - - 1"
+    ∷ case first_sheet 1000 1024 1 0 "exact 0 1 3"
+    ∷ case first_sheet 1000 1024 0 1 "exact 0 1 1"
+    ∷ case first_sheet 1000 1024 2 1 "exact 0 1 1"
+    ∷ case two_plies 1000 1024 0 1 "exact 0 1 4"
+    ∷ case two_plies 3 1024 0 1 "spent - - 4"
+    ∷ case two_plies 1000 1 0 1 "exact 0 1 5"
     ∷ []
 
 -- A sheet of one transition and one place with so many tokens and one row: whether the transition is enabled there, and whether it spills.
@@ -64,20 +64,20 @@ pub record Arc : Type 0 where
 abbrev pub arc : String → String → Bool → Bool → Arc
 arc t r e s = record { tokens = t; row = r; enabled = e; spills = s }
 
-abbrev pub arc-sheet : Arc → List ℕ
-arc-sheet a = bytes "row at place n cap\nsize 1 1 - -\nmark - 0 " ++ bytes a.tokens ++ bytes " -\nturn 0 - 1 -\n" ++ bytes a.row ++ bytes "\n"
+abbrev pub arc_sheet : Arc → List ℕ
+arc_sheet a = bytes "row at place n cap\nsize 1 1 - -\nmark - 0 " ++ bytes a.tokens ++ bytes " -\nturn 0 - 1 -\n" ++ bytes a.row ++ bytes "\n"
 
-abbrev pub refused-firing : Option Marking → Bool
-refused-firing none = true
-refused-firing (some m) = false
+abbrev pub refused_firing : Option Marking → Bool
+refused_firing none = true
+refused_firing (some m) = false
 
 abbrev pub behaves : Reading → Option (Bool × Bool)
-behaves (accepted net) = some (enabled net (start net) 0, enabled net (start net) 0 && refused-firing (fire net (start net) 0))
+behaves (accepted net) = some (enabled net (start net) 0, enabled net (start net) 0 && refused_firing (fire net (start net) 0))
 behaves (unread r n) = none
 
 -- `in` 0 is always enabled, 2 never; `stop` 0 never, 1 only at 0, 2 always; `cap` 1 1 only at 0; `out` 2 spills
-abbrev pub arc-cases : List Arc
-arc-cases =
+abbrev pub arc_cases : List Arc
+arc_cases =
     arc "0" "in 0 0 0 -" true false
     ∷ arc "1" "in 0 0 0 -" true false
     ∷ arc "0" "in 0 0 2 -" false false

@@ -10,7 +10,7 @@ use lib.Dec.{ltb}
 use borrow.Author.Tests.{ltb-true, ltb-false}
 use Rattle.rules.specs.Game.{Game, Side, opp, leq}
 use Rattle.rules.specs.Minimax.{pick}
-use Rattle.rules.specs.Search.{Interval, Child, Best, Outcome, value, spent, refused, edge, window, Settings, State, Run, Search, follow, then, tick, Recalled, known, unknown, recall, Expanded, halted, won, children, improve, ended, row, finish, searched, turned, listed, opened, node, passes, budgeted, ticked, counted, too-deep, alpha-beta}
+use Rattle.rules.specs.Search.{Interval, Child, Best, Outcome, value, spent, refused, edge, window, Settings, State, Run, Search, follow, then, tick, Recalled, known, unknown, recall, Expanded, halted, won, children, improve, ended, row, finish, searched, turned, listed, opened, node, passes, budgeted, ticked, counted, too_deep, alpha_beta}
 
 -- an end other than `spent`
 abbrev pub Unspent : {A : Type 0} → Outcome A → Type 0
@@ -35,13 +35,13 @@ module _ (G : Game) (S : Settings G) (B : ℕ) where
     pub within : (st : State S) → st.nodes ≤ B → Within (f st) (g st)
 
   -- a run that counts nothing
-  pub budgeted-pure : {A : Type 0} (f : Run G S A) → ((st : State S) → (f st).1.nodes ≡ st.nodes) → ((st : State S) → Unspent (f st).0) → Budgeted f f
-  budgeted-pure f e u = record { unspent = u; grows = λ st. omega (arith, e st); within = λ st h. same (omega (arith, e st)) refl }
+  pub budgeted_pure : {A : Type 0} (f : Run G S A) → ((st : State S) → (f st).1.nodes ≡ st.nodes) → ((st : State S) → Unspent (f st).0) → Budgeted f f
+  budgeted_pure f e u = record { unspent = u; grows = λ st. omega (arith, e st); within = λ st h. same (omega (arith, e st)) refl }
 
   -- one run after another
-  pub budgeted-then : {A C : Type 0} (f g : Run G S A) (h k : A → Run G S C) → Budgeted f g → ((a : A) → Budgeted (h a) (k a)) → Budgeted (then G S f h) (then G S g k)
+  pub budgeted_then : {A C : Type 0} (f g : Run G S A) (h k : A → Run G S C) → Budgeted f g → ((a : A) → Budgeted (h a) (k a)) → Budgeted (then G S f h) (then G S g k)
   unfolding then follow
-  budgeted-then {A} {C} f g h k r b = record { unspent = λ st. ends (f st).0 (f st).1 (r.unspent st); grows = λ st. omega (arith, r.grows st, longer (f st).0 (f st).1); within = λ st l. step (f st) (g st) (r.within st l) }
+  budgeted_then {A} {C} f g h k r b = record { unspent = λ st. ends (f st).0 (f st).1 (r.unspent st); grows = λ st. omega (arith, r.grows st, longer (f st).0 (f st).1); within = λ st l. step (f st) (g st) (r.within st l) }
     where
       ends : (o : Outcome A) (z : State S) → Unspent o → Unspent (follow G S o h z).0
       ends (value a) z u = (b a).unspent z
@@ -66,61 +66,61 @@ module _ (G : Game) (S : Settings G) (B : ℕ) where
   BudgetedSearch f g = (p : Pos) (w : Interval Value) → Budgeted (f p w) (g p w)
 
   module _ (f g : Search G S) (ih : BudgetedSearch f g) where
-    row-budgeted : (s : Side) (β : Value) (l : List (Child Pos)) (α : Value) (b : Option (Best Value)) → Budgeted (row G S f s β l α b) (row G S g s β l α b)
+    row_budgeted : (s : Side) (β : Value) (l : List (Child Pos)) (α : Value) (b : Option (Best Value)) → Budgeted (row G S f s β l α b) (row G S g s β l α b)
     unfolding row ended
-    row-budgeted s β [] α b = budgeted-pure _ (λ st. refl) (λ st. tt)
-    row-budgeted s β (c ∷ l) α b = budgeted-then _ _ _ _ (ih c.pos (window s α β)) (λ v. go (row-budgeted s β l) (leq G s β (pick G s α v)) (pick G s α v) (improve G S s b v c.move))
+    row_budgeted s β [] α b = budgeted_pure _ (λ st. refl) (λ st. tt)
+    row_budgeted s β (c ∷ l) α b = budgeted_then _ _ _ _ (ih c.pos (window s α β)) (λ v. go (row_budgeted s β l) (leq G s β (pick G s α v)) (pick G s α v) (improve G S s b v c.move))
       where
         go : ((α : Value) (b : Option (Best Value)) → Budgeted (row G S f s β l α b) (row G S g s β l α b)) → (x : Bool) (α : Value) (b : Option (Best Value)) →
             Budgeted (ended G S x c.move (row G S f s β l) α b) (ended G S x c.move (row G S g s β l) α b)
-        go rest true α b = budgeted-pure _ (λ st. refl) (λ st. tt)
+        go rest true α b = budgeted_pure _ (λ st. refl) (λ st. tt)
         go rest false α b = rest α b
 
-    finish-budgeted : (p : Pos) (w : Interval Value) (s : Side) (n : ℕ) (b : Option (Best Value)) → Budgeted (finish G S p w s n b) (finish G S p w s n b)
+    finish_budgeted : (p : Pos) (w : Interval Value) (s : Side) (n : ℕ) (b : Option (Best Value)) → Budgeted (finish G S p w s n b) (finish G S p w s n b)
     unfolding finish
-    finish-budgeted p w s n none = budgeted-pure _ (λ st. refl) (λ st. tt)
-    finish-budgeted p w s n (some b) = budgeted-pure _ (λ st. refl) (λ st. tt)
+    finish_budgeted p w s n none = budgeted_pure _ (λ st. refl) (λ st. tt)
+    finish_budgeted p w s n (some b) = budgeted_pure _ (λ st. refl) (λ st. tt)
 
     module _ (p : Pos) where
-      searched-budgeted : (w : Interval Value) (first : Option ℕ) (s : Side) (x : Expanded Pos) → Budgeted (searched G S f p w first s x) (searched G S g p w first s x)
+      searched_budgeted : (w : Interval Value) (first : Option ℕ) (s : Side) (x : Expanded Pos) → Budgeted (searched G S f p w first s x) (searched G S g p w first s x)
       unfolding searched
-      searched-budgeted w first s (halted r) = budgeted-pure _ (λ st. refl) (λ st. tt)
-      searched-budgeted w first s (won t) = budgeted-pure _ (λ st. refl) (λ st. tt)
-      searched-budgeted w first s (children c) = record { unspent = λ st. (at st).unspent st; grows = λ st. (at st).grows st; within = λ st. (at st).within st }
+      searched_budgeted w first s (halted r) = budgeted_pure _ (λ st. refl) (λ st. tt)
+      searched_budgeted w first s (won t) = budgeted_pure _ (λ st. refl) (λ st. tt)
+      searched_budgeted w first s (children c) = record { unspent = λ st. (at st).unspent st; grows = λ st. (at st).grows st; within = λ st. (at st).within st }
         where
           -- with the history and the count of the state `st` that the node began in
           at : (st : State S) → Budgeted
               (then G S (row G S f s (edge w (opp s)) (arrange st.history first s c) (edge w s) none) (finish G S p w s st.nodes))
               (then G S (row G S g s (edge w (opp s)) (arrange st.history first s c) (edge w s) none) (finish G S p w s st.nodes))
-          at st = budgeted-then _ _ _ _ (row-budgeted s (edge w (opp s)) (arrange st.history first s c) (edge w s) none) (finish-budgeted p w s st.nodes)
+          at st = budgeted_then _ _ _ _ (row_budgeted s (edge w (opp s)) (arrange st.history first s c) (edge w s) none) (finish_budgeted p w s st.nodes)
 
-      turned-budgeted : (w : Interval Value) (first : Option ℕ) (o : Option Side) → Budgeted (turned G S f p w first o) (turned G S g p w first o)
+      turned_budgeted : (w : Interval Value) (first : Option ℕ) (o : Option Side) → Budgeted (turned G S f p w first o) (turned G S g p w first o)
       unfolding turned
-      turned-budgeted w first none = budgeted-pure _ (λ st. refl) (λ st. tt)
-      turned-budgeted w first (some s) = searched-budgeted w first s _
+      turned_budgeted w first none = budgeted_pure _ (λ st. refl) (λ st. tt)
+      turned_budgeted w first (some s) = searched_budgeted w first s _
 
-      listed-budgeted : (w : Interval Value) (first : Option ℕ) (b : Bool) (l : List ℕ) → Budgeted (listed G S f p w first b l) (listed G S g p w first b l)
+      listed_budgeted : (w : Interval Value) (first : Option ℕ) (b : Bool) (l : List ℕ) → Budgeted (listed G S f p w first b l) (listed G S g p w first b l)
       unfolding listed
-      listed-budgeted w first true l = budgeted-pure _ (λ st. refl) (λ st. tt)
-      listed-budgeted w first false [] = budgeted-pure _ (λ st. refl) (λ st. tt)
-      listed-budgeted w first false (t ∷ l) = turned-budgeted w first (mover p)
+      listed_budgeted w first true l = budgeted_pure _ (λ st. refl) (λ st. tt)
+      listed_budgeted w first false [] = budgeted_pure _ (λ st. refl) (λ st. tt)
+      listed_budgeted w first false (t ∷ l) = turned_budgeted w first (mover p)
 
-      opened-budgeted : (x : Recalled Value) → Budgeted (opened G S f p x) (opened G S g p x)
+      opened_budgeted : (x : Recalled Value) → Budgeted (opened G S f p x) (opened G S g p x)
       unfolding opened
-      opened-budgeted (known v) = budgeted-pure _ (λ st. refl) (λ st. tt)
-      opened-budgeted (unknown w first) = listed-budgeted w first _ (moves p)
+      opened_budgeted (known v) = budgeted_pure _ (λ st. refl) (λ st. tt)
+      opened_budgeted (unknown w first) = listed_budgeted w first _ (moves p)
 
-    node-budgeted : BudgetedSearch (node G S f) (node G S g)
+    node_budgeted : BudgetedSearch (node G S f) (node G S g)
     unfolding node
-    node-budgeted p w = record {
-      unspent = λ st. (opened-budgeted p (recall G S w (get st.memo p))).unspent st;
-      grows = λ st. (opened-budgeted p (recall G S w (get st.memo p))).grows st;
-      within = λ st. (opened-budgeted p (recall G S w (get st.memo p))).within st;
+    node_budgeted p w = record {
+      unspent = λ st. (opened_budgeted p (recall G S w (get st.memo p))).unspent st;
+      grows = λ st. (opened_budgeted p (recall G S w (get st.memo p))).grows st;
+      within = λ st. (opened_budgeted p (recall G S w (get st.memo p))).within st;
     }
 
-    counted-budgeted : BudgetedSearch (counted G S none f) (counted G S (some B) g)
+    counted_budgeted : BudgetedSearch (counted G S none f) (counted G S (some B) g)
     unfolding counted ticked passes budgeted
-    counted-budgeted p w = record { unspent = λ st. (ih p w).unspent (tick G S st); grows = λ st. omega (arith, (ih p w).grows (tick G S st)); within = λ st l. go st l (ltb B (suc st.nodes)) refl }
+    counted_budgeted p w = record { unspent = λ st. (ih p w).unspent (tick G S st); grows = λ st. omega (arith, (ih p w).grows (tick G S st)); within = λ st l. go st l (ltb B (suc st.nodes)) refl }
       where
         go : (st : State S) → st.nodes ≤ B → (x : Bool) → ltb B (suc st.nodes) ≡ x → Within (f p w (tick G S st)) (budgeted G S x (g p w) (tick G S st))
         go st l true e = short (omega (arith, ltb-true, (ih p w).grows (tick G S st))) refl (omega (arith, ltb-true))
@@ -128,7 +128,7 @@ module _ (G : Game) (S : Settings G) (B : ℕ) where
 
   -- THEOREM 2 (the budget). Let N be the count that the search reaches with no budget, from a count of at most `B`. If N is at most
   -- `B`, the search with budget `B` ends the same, in outcome and state; else it is `spent`, at a count of `B + 1`.
-  pub alpha-beta-budgeted : (d : ℕ) → BudgetedSearch (alpha-beta G S none d) (alpha-beta G S (some B) d)
-  unfolding alpha-beta too-deep
-  alpha-beta-budgeted zero = counted-budgeted (too-deep G S) (too-deep G S) (λ p w. budgeted-pure _ (λ st. refl) (λ st. tt))
-  alpha-beta-budgeted (suc d) = counted-budgeted (node G S (alpha-beta G S none d)) (node G S (alpha-beta G S (some B) d)) (node-budgeted (alpha-beta G S none d) (alpha-beta G S (some B) d) (alpha-beta-budgeted d))
+  pub alpha_beta_budgeted : (d : ℕ) → BudgetedSearch (alpha_beta G S none d) (alpha_beta G S (some B) d)
+  unfolding alpha_beta too_deep
+  alpha_beta_budgeted zero = counted_budgeted (too_deep G S) (too_deep G S) (λ p w. budgeted_pure _ (λ st. refl) (λ st. tt))
+  alpha_beta_budgeted (suc d) = counted_budgeted (node G S (alpha_beta G S none d)) (node G S (alpha_beta G S (some B) d)) (node_budgeted (alpha_beta G S none d) (alpha_beta G S (some B) d) (alpha_beta_budgeted d))

@@ -14,86 +14,86 @@ use lib.IntN.{ℤ, nat_abs}
 use lib.Ieee.{Float}
 use lib.ListN.{length, get_or, length-map, get_or-eq_default}
 use borrow.Author.Tests.{ltb-true, ltb-false}
-use Rattle.words.proofs.Lists.{mem-getD, by-test, filter-in, filter_passes}
-use Rattle.whole.specs.Whole.{wholeF, Small, Whole}
-use Rattle.whole.proofs.Ints.{ints, parts, natAbs-add}
+use Rattle.words.proofs.Lists.{mem_get_d, by_test, filter_in, filter_passes}
+use Rattle.whole.specs.Whole.{whole_f, Small, Whole}
+use Rattle.whole.proofs.Ints.{ints, parts, nat_abs_add}
 use Rattle.whole.proofs.Wholes.{whole}
-use Rattle.rules.specs.Limits.{max-rows, max-number}
+use Rattle.rules.specs.Limits.{max_rows, max_number}
 use Rattle.rules.specs.Net.{Net, Row, pay, is, rows_of, rewards}
 use Rattle.rules.specs.Game.{Values, ◌∈◌}
 use Rattle.rules.specs.Play.{Marking, score}
 use Rattle.rules.specs.Rewards.{values}
-use Rattle.rules.specs.Codes.{float-values}
+use Rattle.rules.specs.Codes.{float_values}
 use Rattle.rules.specs.Drivers.{single, scout, mtd}
-use Rattle.rules.specs.NetGame.{low, high, int-game, int-scale, float-game, float-scale, driver-of}
+use Rattle.rules.specs.NetGame.{low, high, int_game, int_scale, float_game, float_scale, driver_of}
 use Rattle.theory.proofs.InStep.{Scales, Drivers}
-use Rattle.theory.proofs.Floats.{Ranged, Stands, floats-scaled}
-use Rattle.theory.proofs.Integers.{le-leZ}
-use Rattle.theory.proofs.Sums.{Sum, none, without, with, lowest-sum, sum-highest, sum-lowest, sum-of-highest}
+use Rattle.theory.proofs.Floats.{Ranged, Stands, floats_scaled}
+use Rattle.theory.proofs.Integers.{le_le_z}
+use Rattle.theory.proofs.Sums.{Sum, none, without, with, lowest_sum, sum_highest, sum_lowest, sum_of_highest}
 use Rattle.theory.proofs.Values.{values_listed}
-use Rattle.theory.proofs.NetRules.{score-sum, net-rules}
+use Rattle.theory.proofs.NetRules.{score_sum, net_rules}
 use Rattle.theory.proofs.NetLimits.{NetLimits}
-use Rattle.theory.proofs.SheetLimits.{is-kind}
+use Rattle.theory.proofs.SheetLimits.{is_kind}
 
 -- a sum of rewards of size at most `n`
-sum-size : (n : ℕ) {rs : List ℤ} {z : ℤ} → Sum rs z → ((r : ℤ) → r ∈ rs → nat_abs r ≤ n) → nat_abs z ≤ n * length rs
-sum-size n none h = omega arith
-sum-size n (without {rs} s) h = omega (arith, mul-suc n (length rs), sum-size n s (λ r i. h r (Memᴰ.tail i)))
-sum-size n (with {r} {z} {rs} s) h =
-    omega (arith, mul-suc n (length rs), natAbs-add r z, h r (Memᴰ.head refl), sum-size n s (λ r i. h r (Memᴰ.tail i)))
+sum_size : (n : ℕ) {rs : List ℤ} {z : ℤ} → Sum rs z → ((r : ℤ) → r ∈ rs → nat_abs r ≤ n) → nat_abs z ≤ n * length rs
+sum_size n none h = omega arith
+sum_size n (without {rs} s) h = omega (arith, mul-suc n (length rs), sum_size n s (λ r i. h r (Memᴰ.tail i)))
+sum_size n (with {r} {z} {rs} s) h =
+    omega (arith, mul-suc n (length rs), nat_abs_add r z, h r (Memᴰ.head refl), sum_size n s (λ r i. h r (Memᴰ.tail i)))
 
 module _ (net : Net) (L : NetLimits net) where
-  reward-size : (r : ℤ) → r ∈ rewards net → nat_abs r ≤ max-number
+  reward_size : (r : ℤ) → r ∈ rewards net → nat_abs r ≤ max_number
   unfolding rows_of
-  reward-size z i =
+  reward_size z i =
       let (r, j, e) = Memᴰ.of_map (λ (r : Row). r.n) (rows_of net pay) i in
-      let kind : r.kind ≡ pay = is-kind pay r (filter_passes (is pay) net.rows j) in
-      let (t, p, b) = rw kind at (L.part.row-limits r (filter-in (is pay) net.rows j)) in
-      subst (λ (z : ℤ). nat_abs z ≤ max-number) e (omega (ints, parts r.n))
+      let kind : r.kind ≡ pay = is_kind pay r (filter_passes (is pay) net.rows j) in
+      let (t, p, b) = rw kind at (L.part.row_limits r (filter_in (is pay) net.rows j)) in
+      subst (λ (z : ℤ). nat_abs z ≤ max_number) e (omega (ints, parts r.n))
 
-  pub sum-small : {z : ℤ} → Sum (rewards net) z → Small z
-  sum-small {z} s =
-      let few : length (rewards net) ≤ max-rows = rw (length-map (rows_of net pay) (λ r. r.n)) L.few-pays in
-      record { size = omega (arith, sum-size max-number s reward-size, mul-le-mul_left max-number few) }
+  pub sum_small : {z : ℤ} → Sum (rewards net) z → Small z
+  sum_small {z} s =
+      let few : length (rewards net) ≤ max_rows = rw (length-map (rows_of net pay) (λ r. r.n)) L.few_pays in
+      record { size = omega (arith, sum_size max_number s reward_size, mul-le-mul_left max_number few) }
 
-  pub sum-ranged : {z : ℤ} → Sum (rewards net) z → Ranged (low net) (high net) z
-  sum-ranged s = record { is-small = sum-small s; from_low = le-leZ (lowest-sum s); to_high = le-leZ (sum-highest s) }
+  pub sum_ranged : {z : ℤ} → Sum (rewards net) z → Ranged (low net) (high net) z
+  sum_ranged s = record { is_small = sum_small s; from_low = le_le_z (lowest_sum s); to_high = le_le_z (sum_highest s) }
 
-  pub score-whole : (m : Marking) → Whole (wholeF (score net m)) (score net m)
-  score-whole m = whole (sum-small (score-sum net m))
+  pub score_whole : (m : Marking) → Whole (whole_f (score net m)) (score net m)
+  score_whole m = whole (sum_small (score_sum net m))
 
-  pub low-whole : Whole (wholeF (low net)) (low net)
-  low-whole = whole (sum-small (sum-lowest (rewards net)))
+  pub low_whole : Whole (whole_f (low net)) (low net)
+  low_whole = whole (sum_small (sum_lowest (rewards net)))
 
-  pub high-whole : Whole (wholeF (high net)) (high net)
-  high-whole = whole (sum-small (sum-of-highest (rewards net)))
+  pub high_whole : Whole (whole_f (high net)) (high net)
+  high_whole = whole (sum_small (sum_of_highest (rewards net)))
 
   -- what the drivers go by is a sum of rewards, also past the last
   at_sum : (n : ℕ) → Sum (rewards net) (get_or (values (rewards net)) n (high net))
   at_sum n =
-      ⊎_elim (λ e. rw e (sum-of-highest (rewards net)))
-      (λ h. by-test (ltb n (length (values (rewards net))))
-      (λ l. h.is_sum (get_or (values (rewards net)) n (high net)) (mem-getD (values (rewards net)) n (high net) (ltb-true _ _ l)))
-      (λ l. rw (get_or-eq_default (values (rewards net)) (high net) (ltb-false n _ l)) (sum-of-highest (rewards net))))
+      ⊎_elim (λ e. rw e (sum_of_highest (rewards net)))
+      (λ h. by_test (ltb n (length (values (rewards net))))
+      (λ l. h.is_sum (get_or (values (rewards net)) n (high net)) (mem_get_d (values (rewards net)) n (high net) (ltb-true _ _ l)))
+      (λ l. rw (get_or-eq_default (values (rewards net)) (high net) (ltb-false n _ l)) (sum_of_highest (rewards net))))
       (values_listed (rewards net))
 
   -- `x` is the integer `z` between the bounds
   abbrev pub NetStands : ℤ → Float → Type 0
-  NetStands = Stands (int-game net) (score net) (low net) (high net) (λ m. wholeF (score net m)) (wholeF (low net)) (wholeF (high net)) score-whole low-whole high-whole
+  NetStands = Stands (int_game net) (score net) (low net) (high net) (λ m. whole_f (score net m)) (whole_f (low net)) (whole_f (high net)) score_whole low_whole high_whole
 
   abbrev NetValues : Values Marking
-  NetValues = float-values (λ m. wholeF (score net m)) (wholeF (low net)) (wholeF (high net))
+  NetValues = float_values (λ m. whole_f (score net m)) (whole_f (low net)) (whole_f (high net))
 
-  net-scales : Scales (int-game net) NetValues NetStands (int-scale net) (float-scale net)
-  net-scales =
-      floats-scaled (int-game net) (score net) (low net) (high net) (λ m. wholeF (score net m)) (wholeF (low net)) (wholeF (high net)) score-whole low-whole high-whole (net-rules net) _ _ _
-      (λ n. record { is_whole = whole (sum-small (at_sum n)); ranged = sum-ranged (at_sum n) })
+  net_scales : Scales (int_game net) NetValues NetStands (int_scale net) (float_scale net)
+  net_scales =
+      floats_scaled (int_game net) (score net) (low net) (high net) (λ m. whole_f (score net m)) (whole_f (low net)) (whole_f (high net)) score_whole low_whole high_whole (net_rules net) _ _ _
+      (λ n. record { is_whole = whole (sum_small (at_sum n)); ranged = sum_ranged (at_sum n) })
 
-  pub net-drivers : (d : ℕ) → Drivers (int-game net) NetValues NetStands (driver-of (int-game net) (int-scale net) (values (rewards net)) d) (driver-of (float-game net) (float-scale net) (values (rewards net)) d)
-  unfolding driver-of
-  net-drivers d = go (eqb d 0 || ltb (length (values (rewards net))) 3) (eqb d 1)
+  pub net_drivers : (d : ℕ) → Drivers (int_game net) NetValues NetStands (driver_of (int_game net) (int_scale net) (values (rewards net)) d) (driver_of (float_game net) (float_scale net) (values (rewards net)) d)
+  unfolding driver_of
+  net_drivers d = go (eqb d 0 || ltb (length (values (rewards net))) 3) (eqb d 1)
     where
-      go : (a b : Bool) → Drivers (int-game net) NetValues NetStands (cond a single (cond b (scout (int-scale net)) (mtd (int-scale net)))) (cond a single (cond b (scout (float-scale net)) (mtd (float-scale net))))
+      go : (a b : Bool) → Drivers (int_game net) NetValues NetStands (cond a single (cond b (scout (int_scale net)) (mtd (int_scale net)))) (cond a single (cond b (scout (float_scale net)) (mtd (float_scale net))))
       go true b = tt
-      go false true = net-scales
-      go false false = net-scales
+      go false true = net_scales
+      go false false = net_scales

@@ -30,33 +30,33 @@ module _ (G : Game) where
   open G use {Pos, moves, play}
 
   -- a move of a regular position
-  move-turn : (d t : ℕ) (p : Pos) → Regular G (suc d) p → t ∈ moves p → Turn G (Regular G d) p
-  move-turn d t p h i = go h.turn
+  move_turn : (d t : ℕ) (p : Pos) → Regular G (suc d) p → t ∈ moves p → Turn G (Regular G d) p
+  move_turn d t p h i = go h.turn
     where
       go : (moves p ≡ []) ⊎ Turn G (Regular G d) p → Turn G (Regular G d) p
-      go (inl e) = absurd (Memᴰ.not-nil (rw e at i))
+      go (inl e) = absurd (Memᴰ.not_nil (rw e at i))
       go (inr k) = k
 
   -- a line from a regular position ends in one, at the depth that is left
-  below-regular : {p q : Pos} {n : ℕ} (d : ℕ) → Below G p n q → Regular G d p → (e : ℕ) × (n + suc e ≡ d) × Regular G (suc e) q
-  below-regular zero here h = absurd h
-  below-regular (suc d) here h = (d, omega arith, h)
-  below-regular zero (by i e b) h = absurd h
-  below-regular {p} (suc d) (by {q} {t} i e b) h =
-      let (x, f, r) = (move-turn d t p h i).next t i in
+  below_regular : {p q : Pos} {n : ℕ} (d : ℕ) → Below G p n q → Regular G d p → (e : ℕ) × (n + suc e ≡ d) × Regular G (suc e) q
+  below_regular zero here h = absurd h
+  below_regular (suc d) here h = (d, omega arith, h)
+  below_regular zero (by i e b) h = absurd h
+  below_regular {p} (suc d) (by {q} {t} i e b) h =
+      let (x, f, r) = (move_turn d t p h i).next t i in
       let same : x ≡ q = cc in
-      let (c, left, k) = below-regular d b (rw same at r) in
+      let (c, left, k) = below_regular d b (rw same at r) in
       (c, omega arith, k)
 
-  pub regular-uncaused : {p : Pos} {r : Refusal} (d : ℕ) → Regular G d p → Cause G d p r → ⊥
-  regular-uncaused d h (mixed {q} b ne m) = let (e, left, k) = below-regular d b h in go e k.turn
+  pub regular_uncaused : {p : Pos} {r : Refusal} (d : ℕ) → Regular G d p → Cause G d p r → ⊥
+  regular_uncaused d h (mixed {q} b ne m) = let (e, left, k) = below_regular d b h in go e k.turn
     where
       go : (e : ℕ) → (moves q ≡ []) ⊎ Turn G (Regular G e) q → ⊥
       go e (inl x) = ne x
       go e (inr t) = let s = t.moves_of in true≢false (cc)
-  regular-uncaused d h (wide b w) = let (e, left, k) = below-regular d b h in let n = k.narrow in omega arith
-  regular-uncaused d h (stops {q} {t} b i s) =
-      let (e, left, k) = below-regular d b h in
-      let (x, f, r) = (move-turn e t q k i).next t i in
+  regular_uncaused d h (wide b w) = let (e, left, k) = below_regular d b h in let n = k.narrow in omega arith
+  regular_uncaused d h (stops {q} {t} b i s) =
+      let (e, left, k) = below_regular d b h in
+      let (x, f, r) = (move_turn e t q k i).next t i in
       true≢false (cc)
-  regular-uncaused d h (deep b n) = let (e, left, k) = below-regular d b h in omega arith
+  regular_uncaused d h (deep b n) = let (e, left, k) = below_regular d b h in omega arith

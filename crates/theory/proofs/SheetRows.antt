@@ -9,13 +9,13 @@ use Prim.Native.Nat.{ℕ, ◌<◌}
 use lib.Dec.{eqb}
 use lib.IntN.{ℤ, pos, nat_abs}
 use lib.Signed.{le_z, lt_z}
-use Rattle.words.proofs.Lists.{and-true}
+use Rattle.words.proofs.Lists.{and_true}
 use Rattle.whole.proofs.Ints.{ints, parts}
-use Rattle.rules.specs.Limits.{max-size, max-number}
+use Rattle.rules.specs.Limits.{max_size, max_number}
 use Rattle.rules.specs.Net.{Kind, size, code, Net, is}
 use Rattle.rules.specs.Game.{◌∈◌}
-use Rattle.rules.specs.Sheet.{dash, transition, place, Form, form, unsigned, forms, Fields, in_field, in-range, row_of}
-use Rattle.theory.proofs.NetLimits.{Between, KindLimits, RowLimits, limited-kind}
+use Rattle.rules.specs.Sheet.{dash, transition, place, Form, form, unsigned, forms, Fields, in_field, in_range, row_of}
+use Rattle.theory.proofs.NetLimits.{Between, KindLimits, RowLimits, limited_kind}
 use Rattle.theory.proofs.SheetLines.{Shaped}
 
 -- what holds of each of a list
@@ -24,41 +24,41 @@ Each P [] = Unit {0}
 Each P (f ∷ l) = P f × Each P l
 
 each_in : (P : Form → Type 0) (f : Form) (l : List Form) → Each P l → f ∈ l → P f
-each_in P f [] h i = absurd (Memᴰ.not-nil i)
+each_in P f [] h i = absurd (Memᴰ.not_nil i)
 each_in P f (x ∷ l) h i = ⊎_elim (λ e. rw e h.0) (each_in P f l h.1) (Memᴰ.cases_cons i)
 
 index : (n : ℕ) (z : ℤ) → le_z (pos 0) z && lt_z z (pos n) ≡ true → nat_abs z < n
-index n z e = let (a, b) = and-true (le_z (pos 0) z) (lt_z z (pos n)) e in omega (ints, parts z)
+index n z e = let (a, b) = and_true (le_z (pos 0) z) (lt_z z (pos n)) e in omega (ints, parts z)
 
 between : (a b z : ℤ) → le_z a z && le_z z b ≡ true → Between a b z
-between a b z e = let (x, y) = and-true (le_z a z) (le_z z b) e in (omega ints, omega ints)
+between a b z e = let (x, y) = and_true (le_z a z) (le_z z b) e in (omega ints, omega ints)
 
 module _ (net : Net) (x y z b : ℤ) where
   -- numbers that fit the fields of a form
   record InFields (f : Form) : Type 0 where
-    at-fits : in_field net f.at_field x ≡ true
-    place-fits : in_field net f.place-field y ≡ true
-    n-fits : in_field net f.n_field z ≡ true
-    bound-fits : in_field net f.cap_field b ≡ true
-    at-dash : f.at_field ≡ dash → x ≡ pos 0
-    place-dash : f.place-field ≡ dash → y ≡ pos 0
-    n-dash : f.n_field ≡ dash → z ≡ pos 0
+    at_fits : in_field net f.at_field x ≡ true
+    place_fits : in_field net f.place_field y ≡ true
+    n_fits : in_field net f.n_field z ≡ true
+    bound_fits : in_field net f.cap_field b ≡ true
+    at_dash : f.at_field ≡ dash → x ≡ pos 0
+    place_dash : f.place_field ≡ dash → y ≡ pos 0
+    n_dash : f.n_field ≡ dash → z ≡ pos 0
 
   abbrev Limits : Form → Type 0
   Limits f = (eqb (code f.kind) (code size) ≡ false) → InFields f → KindLimits net.transitions net.places f.kind (nat_abs x) (nat_abs y) z b
 
-  each-limits : Each Limits forms
+  each_limits : Each Limits forms
   unfolding forms
-  each-limits = (
+  each_limits = (
     (λ n h. absurd (true≢false n)),
     (
-      (λ n h. (ap nat_abs (h.at-dash refl), index net.places y h.place-fits, between (pos 0) (pos 1) z h.n-fits)),
+      (λ n h. (ap nat_abs (h.at_dash refl), index net.places y h.place_fits, between (pos 0) (pos 1) z h.n_fits)),
       (
-        (λ n h. (ap nat_abs (h.at-dash refl), index net.places y h.place-fits, between _ _ z h.n-fits)),
+        (λ n h. (ap nat_abs (h.at_dash refl), index net.places y h.place_fits, between _ _ z h.n_fits)),
         (
-          (λ n h. (index net.transitions x h.at-fits, ap nat_abs (h.place-dash refl), between _ _ z h.n-fits)),
+          (λ n h. (index net.transitions x h.at_fits, ap nat_abs (h.place_dash refl), between _ _ z h.n_fits)),
           (
-            (λ n h. (index net.transitions x h.at-fits, ap nat_abs (h.place-dash refl), between _ _ z h.n-fits)),
+            (λ n h. (index net.transitions x h.at_fits, ap nat_abs (h.place_dash refl), between _ _ z h.n_fits)),
             (
               arc,
               (
@@ -68,8 +68,8 @@ module _ (net : Net) (x y z b : ℤ) where
                   (
                     arc,
                     (
-                      (λ n h. (index net.transitions x h.at-fits, index net.places y h.place-fits, between _ _ z h.n-fits, between _ _ b h.bound-fits)),
-                      ((λ n h. (index net.transitions x h.at-fits, ap nat_abs (h.place-dash refl), h.n-dash refl)), tt),
+                      (λ n h. (index net.transitions x h.at_fits, index net.places y h.place_fits, between _ _ z h.n_fits, between _ _ b h.bound_fits)),
+                      ((λ n h. (index net.transitions x h.at_fits, ap nat_abs (h.place_dash refl), h.n_dash refl)), tt),
                     ),
                   ),
                 ),
@@ -81,37 +81,37 @@ module _ (net : Net) (x y z b : ℤ) where
     ),
   )
     where
-      arc : {A : Type 0} {k : Kind} {w : List ℕ} → A → InFields (form k w transition place unsigned dash true) → (nat_abs x < net.transitions) × (nat_abs y < net.places) × Between (pos 0) (pos max-number) z
-      arc n h = (index net.transitions x h.at-fits, index net.places y h.place-fits, between (pos 0) (pos max-number) z h.n-fits)
+      arc : {A : Type 0} {k : Kind} {w : List ℕ} → A → InFields (form k w transition place unsigned dash true) → (nat_abs x < net.transitions) × (nat_abs y < net.places) × Between (pos 0) (pos max_number) z
+      arc n h = (index net.transitions x h.at_fits, index net.places y h.place_fits, between (pos 0) (pos max_number) z h.n_fits)
 
   -- a line `size`
   abbrev Sizes : Form → Type 0
-  Sizes f = (eqb (code f.kind) (code size) ≡ true) → InFields f → Between (pos 1) (pos max-size) x × Between (pos 1) (pos max-size) y
+  Sizes f = (eqb (code f.kind) (code size) ≡ true) → InFields f → Between (pos 1) (pos max_size) x × Between (pos 1) (pos max_size) y
 
-  each-sizes : Each Sizes forms
+  each_sizes : Each Sizes forms
   unfolding forms
-  each-sizes = ((λ e h. (between _ _ x h.at-fits, between _ _ y h.place-fits)), (no, (no, (no, (no, (no, (no, (no, (no, (no, (no, tt)))))))))))
+  each_sizes = ((λ e h. (between _ _ x h.at_fits, between _ _ y h.place_fits)), (no, (no, (no, (no, (no, (no, (no, (no, (no, (no, tt)))))))))))
     where
       no : {A : Type 0} → false ≡ true → A
       no e = absurd (true≢false (sym e))
 
-line-fields : (net : Net) (l : Fields) → Shaped l → in-range net l ≡ true → InFields net l.at l.place l.n l.bound l.of
-unfolding in-range
-line-fields net l s e =
-    let (abc, d) = and-true _ (in_field net l.of.cap_field l.bound) e in
-    let (ab, c) = and-true _ (in_field net l.of.n_field l.n) abc in
-    let (a, b) = and-true (in_field net l.of.at_field l.at) (in_field net l.of.place-field l.place) ab in
-    record { at-fits = a; place-fits = b; n-fits = c; bound-fits = d; at-dash = s.no-at; place-dash = s.no_place; n-dash = s.no-n }
+line_fields : (net : Net) (l : Fields) → Shaped l → in_range net l ≡ true → InFields net l.at l.place l.n l.bound l.of
+unfolding in_range
+line_fields net l s e =
+    let (abc, d) = and_true _ (in_field net l.of.cap_field l.bound) e in
+    let (ab, c) = and_true _ (in_field net l.of.n_field l.n) abc in
+    let (a, b) = and_true (in_field net l.of.at_field l.at) (in_field net l.of.place_field l.place) ab in
+    record { at_fits = a; place_fits = b; n_fits = c; bound_fits = d; at_dash = s.no_at; place_dash = s.no_place; n_dash = s.no_n }
 
-pub sizes-within : (net : Net) (l : Fields) → Shaped l → in-range net l ≡ true → is size (row_of l) ≡ true → Between (pos 1) (pos max-size) l.at × Between (pos 1) (pos max-size) l.place
-sizes-within net l s e n =
-    each_in (Sizes net l.at l.place l.n l.bound) l.of forms (each-sizes net l.at l.place l.n l.bound) s.form_in n (line-fields net l s e)
+pub sizes_within : (net : Net) (l : Fields) → Shaped l → in_range net l ≡ true → is size (row_of l) ≡ true → Between (pos 1) (pos max_size) l.at × Between (pos 1) (pos max_size) l.place
+sizes_within net l s e n =
+    each_in (Sizes net l.at l.place l.n l.bound) l.of forms (each_sizes net l.at l.place l.n l.bound) s.form_in n (line_fields net l s e)
 
-pub row_within : (net : Net) (l : Fields) → Shaped l → in-range net l ≡ true → is size (row_of l) ≡ false → RowLimits net (row_of l)
+pub row_within : (net : Net) (l : Fields) → Shaped l → in_range net l ≡ true → is size (row_of l) ≡ false → RowLimits net (row_of l)
 row_within net l s e n =
-    each_in (Limits net l.at l.place l.n l.bound) l.of forms (each-limits net l.at l.place l.n l.bound) s.form_in n (line-fields net l s e)
+    each_in (Limits net l.at l.place l.n l.bound) l.of forms (each_limits net l.at l.place l.n l.bound) s.form_in n (line_fields net l s e)
 
 -- the kinds of limited number, by the table
-pub limited-is : (l : Fields) → Shaped l → l.of.limited ≡ limited-kind l.of.kind
+pub limited_is : (l : Fields) → Shaped l → l.of.limited ≡ limited_kind l.of.kind
 unfolding forms
-limited-is l s = each_in (λ f. f.limited ≡ limited-kind f.kind) l.of forms (refl, (refl, (refl, (refl, (refl, (refl, (refl, (refl, (refl, (refl, (refl, tt))))))))))) s.form_in
+limited_is l s = each_in (λ f. f.limited ≡ limited_kind f.kind) l.of forms (refl, (refl, (refl, (refl, (refl, (refl, (refl, (refl, (refl, (refl, (refl, tt))))))))))) s.form_in

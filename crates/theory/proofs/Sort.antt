@@ -7,20 +7,20 @@ use mathlib.Core.List.Permᴰ
 use mathlib.Core.List.{List, [], ◌∷◌, Permᴰ}
 use mathlib.Core.Logic.{◌⊎◌, inl, inr, ⊎_elim}
 use Rattle.words.specs.Lists.{filter}
-use Rattle.words.proofs.Lists.{not-both, by-test, filter-yes, filter-no}
+use Rattle.words.proofs.Lists.{not_both, by_test, filter_yes, filter_no}
 use Rattle.rules.specs.Game.{◌∈◌}
 use Rattle.rules.specs.Sort.{placed, insert, sort}
 
 -- what a test leaves of two lists is the same behind one more
-same-behind : {A : Type 0} (test : A → Bool) (y : A) (k l : List A) → filter test k ≡ filter test l → filter test (y ∷ k) ≡ filter test (y ∷ l)
+same_behind : {A : Type 0} (test : A → Bool) (y : A) (k l : List A) → filter test k ≡ filter test l → filter test (y ∷ k) ≡ filter test (y ∷ l)
 unfolding filter
-same-behind test y k l e = rw e
+same_behind test y k l e = rw e
 
 module _ {A : Type 0} (sooner : A → A → Bool) where
-  insert-in : (x : A) (l : List A) (a : A) → a ∈ insert sooner x l → (a ≡ x) ⊎ (a ∈ l)
+  insert_in : (x : A) (l : List A) (a : A) → a ∈ insert sooner x l → (a ≡ x) ⊎ (a ∈ l)
   unfolding insert placed
-  insert-in x [] a i = Memᴰ.cases_cons i
-  insert-in x (y ∷ l) a i = go (insert-in x l a) (sooner y x) i
+  insert_in x [] a i = Memᴰ.cases_cons i
+  insert_in x (y ∷ l) a i = go (insert_in x l a) (sooner y x) i
     where
       later : (a ≡ x) ⊎ (a ∈ l) → (a ≡ x) ⊎ (a ∈ y ∷ l)
       later (inl e) = inl e
@@ -50,10 +50,10 @@ module _ {A : Type 0} (sooner : A → A → Bool) where
       go below false (inl e) = Memᴰ.head e
       go below false (inr j) = Memᴰ.tail j
 
-  pub sort-in : (l : List A) (a : A) → (a ∈ l → a ∈ sort sooner l) × (a ∈ sort sooner l → a ∈ l)
+  pub sort_in : (l : List A) (a : A) → (a ∈ l → a ∈ sort sooner l) × (a ∈ sort sooner l → a ∈ l)
   unfolding sort
-  sort-in [] a = (λ i. i, λ i. i)
-  sort-in (x ∷ l) a = let (f, g) = sort-in l a in (λ i. in_insert x (sort sooner l) a (there f (Memᴰ.cases_cons i)), λ i. back g (insert-in x (sort sooner l) a i))
+  sort_in [] a = (λ i. i, λ i. i)
+  sort_in (x ∷ l) a = let (f, g) = sort_in l a in (λ i. in_insert x (sort sooner l) a (there f (Memᴰ.cases_cons i)), λ i. back g (insert_in x (sort sooner l) a i))
     where
       there : (a ∈ l → a ∈ sort sooner l) → (a ≡ x) ⊎ (a ∈ l) → (a ≡ x) ⊎ (a ∈ sort sooner l)
       there f (inl e) = inl e
@@ -65,19 +65,19 @@ module _ {A : Type 0} (sooner : A → A → Bool) where
 
   -- A permutation: each stands in the result as often as before.
 
-  insert-permutes : (x : A) (l : List A) → Permᴰ (insert sooner x l) (x ∷ l)
+  insert_permutes : (x : A) (l : List A) → Permᴰ (insert sooner x l) (x ∷ l)
   unfolding insert placed
-  insert-permutes x [] = Permᴰ.refl (x ∷ [])
-  insert-permutes x (y ∷ l) = go (sooner y x) (insert-permutes x l)
+  insert_permutes x [] = Permᴰ.refl (x ∷ [])
+  insert_permutes x (y ∷ l) = go (sooner y x) (insert_permutes x l)
     where
       go : (b : Bool) → Permᴰ (insert sooner x l) (x ∷ l) → Permᴰ (placed sooner b x y l (insert sooner x l)) (x ∷ y ∷ l)
       go true p = Permᴰ.trans (Permᴰ.cons refl p) (Permᴰ.swap refl refl)
       go false p = Permᴰ.refl (x ∷ y ∷ l)
 
-  pub sort-permutes : (l : List A) → Permᴰ (sort sooner l) l
+  pub sort_permutes : (l : List A) → Permᴰ (sort sooner l) l
   unfolding sort
-  sort-permutes [] = Permᴰ.nil
-  sort-permutes (x ∷ l) = Permᴰ.trans (insert-permutes x (sort sooner l)) (Permᴰ.cons refl (sort-permutes l))
+  sort_permutes [] = Permᴰ.nil
+  sort_permutes (x ∷ l) = Permᴰ.trans (insert_permutes x (sort sooner l)) (Permᴰ.cons refl (sort_permutes l))
 
   -- Sorted: nobody stands before one that goes sooner.
 
@@ -87,39 +87,39 @@ module _ {A : Type 0} (sooner : A → A → Bool) where
 
   -- where not both go sooner than each other, and what does not go sooner than one that does not go sooner than a third, does not go sooner than that
   module _ (one_way : (x y : A) → sooner x y ≡ true → sooner y x ≡ false) (through : (x y z : A) → sooner z y ≡ false → sooner y x ≡ false → sooner z x ≡ false) where
-    insert-sorted : (x : A) (l : List A) → Sorted l → Sorted (insert sooner x l)
+    insert_sorted : (x : A) (l : List A) → Sorted l → Sorted (insert sooner x l)
     unfolding insert placed
-    insert-sorted x [] h = (λ y i. absurd (Memᴰ.not-nil i), tt)
-    insert-sorted x (y ∷ l) h = go (sooner y x) refl (insert-sorted x l h.1)
+    insert_sorted x [] h = (λ y i. absurd (Memᴰ.not_nil i), tt)
+    insert_sorted x (y ∷ l) h = go (sooner y x) refl (insert_sorted x l h.1)
       where
         go : (b : Bool) → sooner y x ≡ b → Sorted (insert sooner x l) → Sorted (placed sooner b x y l (insert sooner x l))
-        go true e r = (λ z i. ⊎_elim (λ k. ap (λ (w : A). sooner w y) k ∙ one_way y x e) (h.0 z) (insert-in x l z i), r)
+        go true e r = (λ z i. ⊎_elim (λ k. ap (λ (w : A). sooner w y) k ∙ one_way y x e) (h.0 z) (insert_in x l z i), r)
         go false e r = (λ z i. ⊎_elim (λ k. ap (λ (w : A). sooner w x) k ∙ e) (λ j. through x y z (h.0 z j) e) (Memᴰ.cases_cons i), h)
 
     pub sort_sorted : (l : List A) → Sorted (sort sooner l)
     unfolding sort
     sort_sorted [] = tt
-    sort_sorted (x ∷ l) = insert-sorted x (sort sooner l) (sort_sorted l)
+    sort_sorted (x ∷ l) = insert_sorted x (sort sooner l) (sort_sorted l)
 
   -- Stable: those of which none goes sooner than another stand as they stood before.
   module _ (tied : A → Bool) (ties : (x y : A) → tied x ≡ true → tied y ≡ true → sooner x y ≡ false) where
-    insert-stable : (x : A) (l : List A) → filter tied (insert sooner x l) ≡ filter tied (x ∷ l)
+    insert_stable : (x : A) (l : List A) → filter tied (insert sooner x l) ≡ filter tied (x ∷ l)
     unfolding insert placed
-    insert-stable x [] = refl
-    insert-stable x (y ∷ l) = go (sooner y x) refl (insert-stable x l)
+    insert_stable x [] = refl
+    insert_stable x (y ∷ l) = go (sooner y x) refl (insert_stable x l)
       where
         apart : sooner y x ≡ true → tied x ≡ true → tied y ≡ false
-        apart e a = by-test (tied y) (λ b. absurd (not-both (sooner y x) e (ties y x b a))) (λ b. b)
+        apart e a = by_test (tied y) (λ b. absurd (not_both (sooner y x) e (ties y x b a))) (λ b. b)
 
         behind : (a : Bool) → tied x ≡ a → sooner y x ≡ true → filter tied (y ∷ x ∷ l) ≡ filter tied (x ∷ y ∷ l)
-        behind true a e = filter-no tied y (x ∷ l) (apart e a) ∙ filter-yes tied x l a ∙ sym (filter-yes tied x (y ∷ l) a ∙ ap (λ (k : List A). x ∷ k) (filter-no tied y l (apart e a)))
-        behind false a e = same-behind tied y (x ∷ l) l (filter-no tied x l a) ∙ sym (filter-no tied x (y ∷ l) a)
+        behind true a e = filter_no tied y (x ∷ l) (apart e a) ∙ filter_yes tied x l a ∙ sym (filter_yes tied x (y ∷ l) a ∙ ap (λ (k : List A). x ∷ k) (filter_no tied y l (apart e a)))
+        behind false a e = same_behind tied y (x ∷ l) l (filter_no tied x l a) ∙ sym (filter_no tied x (y ∷ l) a)
 
         go : (b : Bool) → sooner y x ≡ b → filter tied (insert sooner x l) ≡ filter tied (x ∷ l) → filter tied (placed sooner b x y l (insert sooner x l)) ≡ filter tied (x ∷ y ∷ l)
-        go true e r = same-behind tied y (insert sooner x l) (x ∷ l) r ∙ behind (tied x) refl e
+        go true e r = same_behind tied y (insert sooner x l) (x ∷ l) r ∙ behind (tied x) refl e
         go false e r = refl
 
-    pub sort-stable : (l : List A) → filter tied (sort sooner l) ≡ filter tied l
+    pub sort_stable : (l : List A) → filter tied (sort sooner l) ≡ filter tied l
     unfolding sort
-    sort-stable [] = refl
-    sort-stable (x ∷ l) = insert-stable x (sort sooner l) ∙ same-behind tied x (sort sooner l) l (sort-stable l)
+    sort_stable [] = refl
+    sort_stable (x ∷ l) = insert_stable x (sort sooner l) ∙ same_behind tied x (sort sooner l) l (sort_stable l)

@@ -11,29 +11,29 @@ use lib.Bits.{bit_xor, xor_lt}
 use Rattle.words.specs.Words.{wrap, rotate, field, bit_length}
 use Rattle.rules.specs.Memo.{blend, fold, mix, remix}
 
-wrap-lt : (x y : ℕ) → wrap x y < 2 ^ 64
-wrap-lt x y = mod-lt (x * y) (lit< tt)
+wrap_lt : (x y : ℕ) → wrap x y < 2 ^ 64
+wrap_lt x y = mod-lt (x * y) (lit< tt)
 
-fold-lt : (g : ℕ) → g < 2 ^ 64 → fold g < 2 ^ 64
+fold_lt : (g : ℕ) → g < 2 ^ 64 → fold g < 2 ^ 64
 unfolding fold
-fold-lt g h = xor_lt 64 g (g / 2 ^ 32) h (omega arith)
+fold_lt g h = xor_lt 64 g (g / 2 ^ 32) h (omega arith)
 
-pub mix-lt : (k : List ℕ) → mix k < 2 ^ 64
+pub mix_lt : (k : List ℕ) → mix k < 2 ^ 64
 unfolding mix
-mix-lt k = fold-lt (wrap (bit_xor (blend k) (blend k / 2 ^ 29)) 0xBF58_476D_1CE4_E5B9) (wrap-lt _ _)
+mix_lt k = fold_lt (wrap (bit_xor (blend k) (blend k / 2 ^ 29)) 0xBF58_476D_1CE4_E5B9) (wrap_lt _ _)
 
-pub remix-lt : (h : ℕ) → remix h < 2 ^ 64
+pub remix_lt : (h : ℕ) → remix h < 2 ^ 64
 unfolding remix
-remix-lt h = wrap-lt (rotate 32 h) 0x94D0_49BB_1331_11EB
+remix_lt h = wrap_lt (rotate 32 h) 0x94D0_49BB_1331_11EB
 
 -- the high half of a product
-pub share-lt : (h n : ℕ) → h < 2 ^ 64 → 0 < n → h * n / 2 ^ 64 < n
-share-lt h n l k = (div-lt_iff_lt-mul (lit< tt)).1 (rw (mul_comm n (2 ^ 64)) (mul-lt-mul_of_pos_right l k))
+pub share_lt : (h n : ℕ) → h < 2 ^ 64 → 0 < n → h * n / 2 ^ 64 < n
+share_lt h n l k = (div-lt_iff_lt-mul (lit< tt)).1 (rw (mul_comm n (2 ^ 64)) (mul-lt-mul_of_pos_right l k))
 
-pub bit-length-le : (k n : ℕ) → bit_length k n ≤ k
+pub bit-length_le : (k n : ℕ) → bit_length k n ≤ k
 unfolding bit_length
-bit-length-le zero n = omega arith
-bit-length-le (suc k) n = go (bit-length-le k (n / 2)) (eqb n 0)
+bit-length_le zero n = omega arith
+bit-length_le (suc k) n = go (bit-length_le k (n / 2)) (eqb n 0)
   where
     go : bit_length k (n / 2) ≤ k → (x : Bool) → cond x 0 (suc (bit_length k (n / 2))) ≤ suc k
     go h true = omega arith
@@ -44,11 +44,11 @@ module _ (t lo hi work gen : ℕ) (ht : t < 2 ^ 32) (hl : lo < 256) (hh : hi < 2
   abbrev meta : ℕ
   meta = t + lo * 2 ^ 32 + hi * 2 ^ 40 + work * 2 ^ 48 + gen * 2 ^ 56
 
-  pub meta-best : field 0 32 meta ≡ t
-  meta-best = omega arith
+  pub meta_best : field 0 32 meta ≡ t
+  meta_best = omega arith
 
-  pub meta-lo : field 32 8 meta ≡ lo
-  meta-lo = omega arith
+  pub meta_lo : field 32 8 meta ≡ lo
+  meta_lo = omega arith
 
-  pub meta-hi : field 40 8 meta ≡ hi
-  meta-hi = omega arith
+  pub meta_hi : field 40 8 meta ≡ hi
+  meta_hi = omega arith

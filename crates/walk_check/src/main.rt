@@ -3,8 +3,8 @@
 // (lists/README.md). A walk begins at the start, and begins there again where no move is left; a move that is not played to its end leaves the position as it was.
 // The hash is FNV-1a, 64 bits, of words: for each move how its play ended (0: settled, 1: spilled, 2: endless), and at the start and after each move what `seen` takes.
 ghost use Rattle.std.specs.Prelude.{◌≡◌, ◌≤◌, ◌<◌, length};
-ghost use Rattle.sheet.specs.Packed.{net-in};
-ghost use Rattle.bits.specs.Compiled.{net-words};
+ghost use Rattle.sheet.specs.Packed.{net_in};
+ghost use Rattle.bits.specs.Compiled.{net_words};
 ghost use Rattle.indexed.specs.Limited.{Limited};
 
 use bits::{Bitset, Played, Position, Turn};
@@ -96,7 +96,7 @@ fn side(turn: Turn) -> u64 {
 
 // The number of moves, and each.
 fn hashed_moves(c: &[u64], p: Position, h: u64) -> u64
-    requires { length c.now ≡ net-words }
+    requires { length c.now ≡ net_words }
 {
     let mut list = [0u64; 256];
     let n = bits::list_moves(c, p, &mut list);
@@ -105,7 +105,7 @@ fn hashed_moves(c: &[u64], p: Position, h: u64) -> u64
 
 // Of each transition its deficit, and whether it is a move.
 fn hashed_deficits(c: &[u64], transitions: u64, p: Position, h: u64) -> u64
-    requires { (transitions ≤ 256) × (length c.now ≡ net-words) }
+    requires { (transitions ≤ 256) × (length c.now ≡ net_words) }
 {
     let mut sum = h;
     let mut t = 0;
@@ -119,7 +119,7 @@ fn hashed_deficits(c: &[u64], transitions: u64, p: Position, h: u64) -> u64
 
 // What is seen of a position: its marking, its tracked set, its moves, the side to move, whether it is over, its score, and the deficits.
 fn seen(c: &[u64], transitions: u64, p: Position, h: u64) -> u64
-    requires { (transitions ≤ 256) × (length c.now ≡ net-words) }
+    requires { (transitions ≤ 256) × (length c.now ≡ net_words) }
 {
     let mut sum = lists::hashed(h, p.m0);
     sum = lists::hashed(sum, p.m1);
@@ -138,7 +138,7 @@ fn seen(c: &[u64], transitions: u64, p: Position, h: u64) -> u64
 
 // The walk at a position, its hash so far h.
 fn arrived(c: &[u64], transitions: u64, p: Position, h: u64) -> Stand
-    requires { (transitions ≤ 256) × (length c.now ≡ net-words) }
+    requires { (transitions ≤ 256) × (length c.now ≡ net_words) }
 {
     Stand {
         at: p,
@@ -148,14 +148,14 @@ fn arrived(c: &[u64], transitions: u64, p: Position, h: u64) -> Stand
 
 // The position, or the start where no move is left.
 fn resumed(c: &[u64], p: Position, first: Position) -> Position
-    requires { length c.now ≡ net-words }
+    requires { length c.now ≡ net_words }
 {
     if bits::over(c, p) { first } else { p }
 }
 
 // Plays move t.
 fn step(c: &[u64], transitions: u64, p: Position, t: u64, h: u64) -> Stand
-    requires { (transitions ≤ 256) × (t < 256) × (length c.now ≡ net-words) }
+    requires { (transitions ≤ 256) × (t < 256) × (length c.now ≡ net_words) }
 {
     match bits::play(c, p, t) {
         Played::To(q) => arrived(c, transitions, q, lists::hashed(h, 0)),
@@ -166,7 +166,7 @@ fn step(c: &[u64], transitions: u64, p: Position, t: u64, h: u64) -> Stand
 
 // The hash of a walk along the moves.
 fn follow(c: &[u64], transitions: u64, first: Position, moves: &[u8]) -> u64
-    requires { (transitions ≤ 256) × (length c.now ≡ net-words) }
+    requires { (transitions ≤ 256) × (length c.now ≡ net_words) }
 {
     let mut w = arrived(c, transitions, first, 0xCBF2_9CE4_8422_2325);
     let mut i = 0;
@@ -192,7 +192,7 @@ fn walk(
     c: &mut [u64],
     cells: &mut [u64],
 ) -> u64
-    requires { (transitions ≤ 256) × Limited (net-in transitions places n rows.now) × (length c.old ≡ net-words) × (length cells.old ≡ 65536) }
+    requires { (transitions ≤ 256) × Limited (net_in transitions places n rows.now) × (length c.old ≡ net_words) × (length cells.old ≡ 65536) }
 {
     if rows.len() < n {
         return 0;

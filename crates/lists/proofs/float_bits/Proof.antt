@@ -3,14 +3,14 @@ use mathlib.Core.Path.{◌≡◌, refl}
 use mathlib.Core.Bool.{true, not}
 use lib.Dec.{T}
 use lib.Ieee.{Float, nan, inf, fin, lt, le, eq, is_nan}
-use Rattle.words.proofs.Lists.{not-both}
+use Rattle.words.proofs.Lists.{not_both}
 use borrow.Author.Rules.{rules}
 use Rattle.lists.proofs.float_bits.Statement.{statement}
 use Rattle.lists.proofs.float_bits.Tie as tie
 
 real : (x : Float) → le x x ≡ true → T (not (is_nan x))
 unfolding is_nan le lt eq
-real nan e = absurd (not-both (le nan nan) e refl)
+real nan e = absurd (not_both (le nan nan) e refl)
 real (inf s) e = tt
 real (fin s m d) e = tt
 

@@ -31,7 +31,7 @@ slice-aggregate-run-2 : tie.Need-slice-aggregate-run-2
 slice-aggregate-run-2 c = sym (length-take-le c.before.before.rows.result c.before.before.before.before.before.before.before.before.args.tags.now (search rules))
 
 run-requires : tie.Need-run-requires
-run-requires c κs = let a = c.before.before.before.before.before.before.before.before.before.args in let y = length-take-le c.before.before.before.before.table-words.result a.words.now (search rules) in let z = length-take-le c.before.before.before.rows.result a.tags.now (search rules) in (record { tagged = record { worded = record { measured = c.before.before.before.before.before.new-table.ensures.1; words-fit = omega (arith, y, c.before.before.before.before.table-words.ensures.0) }; tags-fit = omega (arith, z, c.before.before.before.rows.ensures.0) }; dict-room = search rules; dict-fits = search rules }, search rules)
+run-requires c κs = let a = c.before.before.before.before.before.before.before.before.before.args in let y = length-take-le c.before.before.before.before.table-words.result a.words.now (search rules) in let z = length-take-le c.before.before.before.rows.result a.tags.now (search rules) in (record { tagged = record { worded = record { measured = c.before.before.before.before.before.new-table.ensures.1; words_fit = omega (arith, y, c.before.before.before.before.table-words.ensures.0) }; tags_fit = omega (arith, z, c.before.before.before.rows.ensures.0) }; dict_room = search rules; dict_fits = search rules }, search rules)
 
 slice-aggregate-print : tie.Need-slice-aggregate-print
 slice-aggregate-print c = search rules

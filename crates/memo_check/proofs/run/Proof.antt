@@ -22,7 +22,7 @@ slice-reshare-prefix-hashed-words : tie.Need-slice-reshare-prefix-hashed-words
 slice-reshare-prefix-hashed-words c = search rules
 
 slice-aggregate-hashed-words : tie.Need-slice-aggregate-hashed-words
-slice-aggregate-hashed-words c = sym (length-take-le c.before.before.before.before.before.before.before.before.before.before.before.turns.result.n c.before.before.before.before.before.before.before.before.before.before.before.turns.new.1.1.0 (omega (arith, c.before.before.before.before.before.before.before.before.before.before.before.turns.ensures, c.before.before.before.before.before.before.before.before.before.before.before.turns.auto.1.1.0, c.before.before.before.before.before.before.before.before.before.before.before.before.before.before.before.before.before.before.before.before.before.before.before.before.before.requires.0.dict-room)))
+slice-aggregate-hashed-words c = sym (length-take-le c.before.before.before.before.before.before.before.before.before.before.before.turns.result.n c.before.before.before.before.before.before.before.before.before.before.before.turns.new.1.1.0 (omega (arith, c.before.before.before.before.before.before.before.before.before.before.before.turns.ensures, c.before.before.before.before.before.before.before.before.before.before.before.turns.auto.1.1.0, c.before.before.before.before.before.before.before.before.before.before.before.before.before.before.before.before.before.before.before.before.before.before.before.before.before.requires.0.dict_room)))
 
 hashed-words-requires-2 : tie.Need-hashed-words-requires-2
 hashed-words-requires-2 c κs = search rules

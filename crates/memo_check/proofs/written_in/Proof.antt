@@ -31,7 +31,7 @@ slice-aggregate-written-2 : tie.Need-slice-aggregate-written-2
 slice-aggregate-written-2 c = sym (length-take-le c.before.before.rows.result c.before.before.before.before.before.before.before.before.before.args.tags.now (search rules))
 
 written-requires : tie.Need-written-requires
-written-requires c κs = let a = c.before.before.before.before.before.before.before.before.before.before.args in let y = length-take-le c.before.before.before.before.table-words.result a.words.now (search rules) in let z = length-take-le c.before.before.before.rows.result a.tags.now (search rules) in (record { tagged = record { worded = record { measured = c.before.before.before.before.before.new-table.ensures.1; words-fit = omega (arith, y, c.before.before.before.before.table-words.ensures.0) }; tags-fit = omega (arith, z, c.before.before.before.rows.ensures.0) }; dict-room = search rules; dict-fits = search rules }, search rules, search rules)
+written-requires c κs = let a = c.before.before.before.before.before.before.before.before.before.before.args in let y = length-take-le c.before.before.before.before.table-words.result a.words.now (search rules) in let z = length-take-le c.before.before.before.rows.result a.tags.now (search rules) in (record { tagged = record { worded = record { measured = c.before.before.before.before.before.new-table.ensures.1; words_fit = omega (arith, y, c.before.before.before.before.table-words.ensures.0) }; tags_fit = omega (arith, z, c.before.before.before.rows.ensures.0) }; dict_room = search rules; dict_fits = search rules }, search rules, search rules)
 
 same_length : tie.Need-same-length
 same_length c = search rules

@@ -1,6 +1,6 @@
 use Rattle.std.proofs.Common.{ℕ, ◌/◌, ◌<◌, ◌∙◌, arith, length-set}
-use Rattle.report.proofs.Placing.{placed-byte}
-use Rattle.report.proofs.Numbers.{one-digit, number-then, number-room}
+use Rattle.report.proofs.Placing.{placed_byte}
+use Rattle.report.proofs.Numbers.{one_digit, number_then, number_room}
 use borrow.Fn.Kinds.{In}
 use borrow.Fn.PlainCycle.{Measures, is, falls, and}
 use Rattle.report.proofs.put_digits.Reads as put-digits
@@ -60,7 +60,7 @@ put-digits-returns :
     (put-digits-below t, put-digits.Post)
     (put-digits-at t)
     put-digits.Post
-put-digits-returns t c = λ k h. rw (one-digit k c.before.before.args.n c.if1.true) (placed-byte c.before.before.args.out.now c.before.before.args.at _ (omega arith))
+put-digits-returns t c = λ k h. rw (one_digit k c.before.before.args.n c.if1.true) (placed_byte c.before.before.args.out.now c.before.before.args.at _ (omega arith))
 
 put-digits-put-digits-requires : (t : ℕ) → put-digits-lts.Need-put-digits-requires (
   put-digits-below t,
@@ -84,13 +84,13 @@ put-digits-slice-write-out-2 : (t : ℕ) → put-digits-lts.Need-slice-write-out
   put-digits-below t,
   put-digits.Post,
 ) (put-digits-at t) put-digits.Post
-put-digits-slice-write-out-2 t c = omega (arith, number-room (c.before.before.before.before.before.before.args.n / 10) 18 (omega arith) c.before.before.put-digits.ensures, c.before.before.put-digits.auto.0)
+put-digits-slice-write-out-2 t c = omega (arith, number_room (c.before.before.before.before.before.before.args.n / 10) 18 (omega arith) c.before.before.put-digits.ensures, c.before.before.put-digits.auto.0)
 
 put-digits-add-result-2 : (t : ℕ) → put-digits-lts.Need-overflow-add-result-2 (
   put-digits-below t,
   put-digits.Post,
 ) (put-digits-at t) put-digits.Post
-put-digits-add-result-2 t c = omega (arith, number-room (c.before.before.before.before.before.before.args.n / 10) 18 (omega arith) c.before.before.put-digits.ensures, c.before.before.put-digits.auto.0)
+put-digits-add-result-2 t c = omega (arith, number_room (c.before.before.before.before.before.before.args.n / 10) 18 (omega arith) c.before.before.put-digits.ensures, c.before.before.put-digits.auto.0)
 
 put-digits-same-length-2 : (t : ℕ) → put-digits-lts.Need-same-length-2 (
   put-digits-below t,
@@ -102,7 +102,7 @@ put-digits-returns-2 : (t : ℕ) → put-digits-lts.Need-returns-2 (
   put-digits-below t,
   put-digits.Post,
 ) (put-digits-at t) put-digits.Post
-put-digits-returns-2 t c = number-then c.before.before.before.before.before.before.args.n (omega arith) (omega (arith, number-room (c.before.before.before.before.before.before.args.n / 10) 18 (omega arith) c.before.before.put-digits.ensures, c.before.before.put-digits.auto.0)) c.before.before.put-digits.ensures
+put-digits-returns-2 t c = number_then c.before.before.before.before.before.before.args.n (omega arith) (omega (arith, number_room (c.before.before.before.before.before.before.args.n / 10) 18 (omega arith) c.before.before.put-digits.ensures, c.before.before.put-digits.auto.0)) c.before.before.put-digits.ensures
 
 pub +put-digits-spec : {M : Type 1} → statement M
 +put-digits-spec = close μ-put-digits λ t. put-digits-lts.spec (

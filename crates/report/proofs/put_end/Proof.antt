@@ -1,6 +1,6 @@
 -- `report::put_end` meets its contract. Assumes nothing.
 use Rattle.std.proofs.Common.{rules}
-use Rattle.report.proofs.Placing.{placed-then}
+use Rattle.report.proofs.Placing.{placed_then}
 use Rattle.report.proofs.put_end.Statement.{statement}
 use Rattle.report.proofs.put_end.Tie as tie
 
@@ -23,7 +23,7 @@ same_length : tie.Need-same-length
 same_length c = search rules
 
 returns : tie.Need-returns
-returns c = placed-then c.before.before.before.before.before.before.before.before.before.before.before.put-text.ensures (placed-then c.before.before.before.before.before.before.before.put-number.ensures.0 c.before.before.put-text2.ensures)
+returns c = placed_then c.before.before.before.before.before.before.before.before.before.before.before.put-text.ensures (placed_then c.before.before.before.before.before.before.before.put-number.ensures.0 c.before.before.put-text2.ensures)
 
 pub put-end-spec : {M : Type 1} → statement M
 put-end-spec =

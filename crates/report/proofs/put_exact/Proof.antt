@@ -1,8 +1,8 @@
 -- `report::put_exact` meets its contract. Assumes nothing.
 use Rattle.std.proofs.Common.{rules}
-use Rattle.report.proofs.Placing.{placed-then}
+use Rattle.report.proofs.Placing.{placed_then}
 use Rattle.report.proofs.Casts.{passed}
-use Rattle.report.proofs.Lines.{exact-line}
+use Rattle.report.proofs.Lines.{exact_line}
 use Rattle.report.proofs.put_exact.Statement.{statement}
 use Rattle.report.proofs.put_exact.Tie as tie
 
@@ -35,8 +35,8 @@ same_length c = search rules
 
 returns : tie.Need-returns
 returns c =
-    rw (exact-line c.before.before.before.before.before.before.before.before.before.before.before.before.before.before.before.before.before.before.before.before.before.before.before.before.args.key c.before.before.before.before.before.before.before.before.before.before.before.before.before.before.before.before.before.before.before.before.before.before.before.before.args.value c.before.before.before.before.before.before.before.before.before.before.before.before.before.before.before.before.before.before.before.before.before.before.before.before.args.nodes, ← passed c.before.before.before.before.before.before.before.before.before.before.before.before.before.before.before.before.before.before.before.before.before.before.before.before.args.value c.before.before.before.before.before.before.before.whole_part.ensures)
-    (placed-then c.before.before.before.before.before.before.before.before.before.before.before.before.before.before.before.before.before.before.before.before.put-text.ensures (placed-then c.before.before.before.before.before.before.before.before.before.before.before.before.before.before.before.before.put-number.ensures.0 (placed-then c.before.before.before.before.before.before.before.before.before.before.before.put-text2.ensures (placed-then c.before.before.before.before.before.before.put-signed.ensures.0 c.before.before.put-end.ensures))))
+    rw (exact_line c.before.before.before.before.before.before.before.before.before.before.before.before.before.before.before.before.before.before.before.before.before.before.before.before.args.key c.before.before.before.before.before.before.before.before.before.before.before.before.before.before.before.before.before.before.before.before.before.before.before.before.args.value c.before.before.before.before.before.before.before.before.before.before.before.before.before.before.before.before.before.before.before.before.before.before.before.before.args.nodes, ← passed c.before.before.before.before.before.before.before.before.before.before.before.before.before.before.before.before.before.before.before.before.before.before.before.before.args.value c.before.before.before.before.before.before.before.whole_part.ensures)
+    (placed_then c.before.before.before.before.before.before.before.before.before.before.before.before.before.before.before.before.before.before.before.before.put-text.ensures (placed_then c.before.before.before.before.before.before.before.before.before.before.before.before.before.before.before.before.put-number.ensures.0 (placed_then c.before.before.before.before.before.before.before.before.before.before.before.put-text2.ensures (placed_then c.before.before.before.before.before.before.put-signed.ensures.0 c.before.before.put-end.ensures))))
 
 pub put-exact-spec : {M : Type 1} → statement M
 put-exact-spec =

@@ -1,7 +1,7 @@
 -- `report::put_refused` meets its contract. Assumes nothing.
 use Rattle.std.proofs.Common.{rules}
-use Rattle.report.proofs.Placing.{placed-then}
-use Rattle.report.proofs.Lines.{refused-line}
+use Rattle.report.proofs.Placing.{placed_then}
+use Rattle.report.proofs.Lines.{refused_line}
 use Rattle.report.proofs.put_refused.Statement.{statement}
 use Rattle.report.proofs.put_refused.Tie as tie
 
@@ -34,8 +34,8 @@ same_length c = search rules
 
 returns : tie.Need-returns
 returns c =
-    rw (refused-line c.before.before.before.before.before.before.before.before.before.before.before.before.before.before.before.before.before.before.before.before.before.before.before.before.args.refusal c.before.before.before.before.before.before.before.before.before.before.before.before.before.before.before.before.before.before.before.before.before.before.before.before.args.line c.before.before.before.before.before.before.before.before.before.before.before.before.before.before.before.before.before.before.before.before.before.before.before.before.args.nodes, ← c.before.before.before.before.before.before.before.before.before.before.before.before.before.before.before.before.number_of_lem.ensures)
-    (placed-then c.before.before.before.before.before.before.before.before.before.before.before.before.before.before.before.before.before.before.before.before.put-text.ensures (placed-then c.before.before.before.before.before.before.before.before.before.before.before.before.before.before.before.put-number.ensures.0 (placed-then c.before.before.before.before.before.before.before.before.before.before.put-text2.ensures (placed-then c.before.before.before.before.before.before.put-number2.ensures.0 c.before.before.put-end.ensures))))
+    rw (refused_line c.before.before.before.before.before.before.before.before.before.before.before.before.before.before.before.before.before.before.before.before.before.before.before.before.args.refusal c.before.before.before.before.before.before.before.before.before.before.before.before.before.before.before.before.before.before.before.before.before.before.before.before.args.line c.before.before.before.before.before.before.before.before.before.before.before.before.before.before.before.before.before.before.before.before.before.before.before.before.args.nodes, ← c.before.before.before.before.before.before.before.before.before.before.before.before.before.before.before.before.number_of_lem.ensures)
+    (placed_then c.before.before.before.before.before.before.before.before.before.before.before.before.before.before.before.before.before.before.before.before.put-text.ensures (placed_then c.before.before.before.before.before.before.before.before.before.before.before.before.before.before.before.put-number.ensures.0 (placed_then c.before.before.before.before.before.before.before.before.before.before.put-text2.ensures (placed_then c.before.before.before.before.before.before.put-number2.ensures.0 c.before.before.put-end.ensures))))
 
 pub put-refused-spec : {M : Type 1} → statement M
 put-refused-spec =

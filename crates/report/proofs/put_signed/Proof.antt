@@ -1,7 +1,7 @@
 -- `report::put_signed` meets its contract. Assumes nothing.
 use Rattle.std.proofs.Common.{nat_abs, ap, ◌∙◌, arith, to_z-of_z, rules}
-use Rattle.report.proofs.Placing.{placed-then}
-use Rattle.report.proofs.Casts.{the_same, shown-negative, shown-plain}
+use Rattle.report.proofs.Placing.{placed_then}
+use Rattle.report.proofs.Casts.{the_same, shown_negative, shown_plain}
 use Rattle.report.proofs.put_signed.Statement.{statement}
 use Rattle.report.proofs.put_signed.Tie as tie
 
@@ -24,8 +24,8 @@ returns : tie.Need-returns
 returns c =
     let at = c.before.before.before.before.before.before.before.before.before.before.before.before in
     let e = the_same at.ranges.z c.before.before.before.before.before.before.before.before.before.if1.true in
-    let p = placed-then c.before.before.before.before.before.before.put-text.ensures c.before.before.put-number.ensures.0 in
-    (rw (shown-negative at.args.z e, ← c.before.before.before.before.before.before.before.before.before.before.type_size.ensures ∙ ap nat_abs (to_z-of_z at.ranges.z)) p, omega (arith, c.before.before.before.before.before.before.put-text.ensures.ends, c.before.before.put-number.ensures.1))
+    let p = placed_then c.before.before.before.before.before.before.put-text.ensures c.before.before.put-number.ensures.0 in
+    (rw (shown_negative at.args.z e, ← c.before.before.before.before.before.before.before.before.before.before.type_size.ensures ∙ ap nat_abs (to_z-of_z at.ranges.z)) p, omega (arith, c.before.before.before.before.before.before.put-text.ensures.ends, c.before.before.put-number.ensures.1))
 
 put-number-requires-2 : tie.Need-put-number-requires-2
 put-number-requires-2 c κs = search rules
@@ -37,7 +37,7 @@ returns-2 : tie.Need-returns-2
 returns-2 c =
     let at = c.before.before.before.before.before.before.before in
     let e = the_same at.ranges.z c.before.before.before.before.if1.false in
-    (rw (shown-plain at.args.z e, ← c.before.before.before.before.before.type_size.ensures ∙ ap nat_abs (to_z-of_z at.ranges.z)) c.before.before.put-number2.ensures.0, omega (arith, c.before.before.put-number2.ensures.1))
+    (rw (shown_plain at.args.z e, ← c.before.before.before.before.before.type_size.ensures ∙ ap nat_abs (to_z-of_z at.ranges.z)) c.before.before.put-number2.ensures.0, omega (arith, c.before.before.put-number2.ensures.1))
 
 pub put-signed-spec : {M : Type 1} → statement M
 put-signed-spec =

@@ -1,7 +1,7 @@
 -- `report::put_spent` meets its contract. Assumes nothing.
 use Rattle.std.proofs.Common.{rules}
-use Rattle.report.proofs.Placing.{placed-then}
-use Rattle.report.proofs.Lines.{spent-line}
+use Rattle.report.proofs.Placing.{placed_then}
+use Rattle.report.proofs.Lines.{spent_line}
 use Rattle.report.proofs.put_spent.Statement.{statement}
 use Rattle.report.proofs.put_spent.Tie as tie
 
@@ -18,7 +18,7 @@ same_length : tie.Need-same-length
 same_length c = search rules
 
 returns : tie.Need-returns
-returns c = rw (spent-line c.before.before.before.before.before.before.before.before.before.before.args.nodes) (placed-then c.before.before.before.before.before.before.put-text.ensures c.before.before.put-end.ensures)
+returns c = rw (spent_line c.before.before.before.before.before.before.before.before.before.before.args.nodes) (placed_then c.before.before.before.before.before.before.put-text.ensures c.before.before.put-end.ensures)
 
 pub put-spent-spec : {M : Type 1} → statement M
 put-spent-spec =

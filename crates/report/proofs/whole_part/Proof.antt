@@ -1,6 +1,6 @@
 use Rattle.std.proofs.Common.{T, sym, subst, rules}
 use lib.Ieee.{of_bits, neg}
-use Rattle.report.proofs.Casts.{part_low, part-high, part-nan}
+use Rattle.report.proofs.Casts.{part_low, part_high, part_nan}
 use Rattle.report.proofs.whole_part.Statement.{statement}
 use Rattle.report.proofs.whole_part.Tie as tie
 use Rattle.report.proofs.whole_part.Reads as reads
@@ -23,10 +23,10 @@ returns-2 c = sym (part_low c.before.before.args.v c.before.if1.true c.if2.false
 
 returns-3 : tie.Need-returns-3
 unfolding of_bits neg
-returns-3 c = sym (part-high c.before.before.args.v c.before.if1.false c.if3.true)
+returns-3 c = sym (part_high c.before.before.args.v c.before.if1.false c.if3.true)
 
 returns-4 : tie.Need-returns-4
-returns-4 c = sym (part-nan c.before.before.args.v c.if3.false)
+returns-4 c = sym (part_nan c.before.before.args.v c.if3.false)
 
 pub whole-part-spec : {M : Type 1} → statement M
 whole-part-spec =

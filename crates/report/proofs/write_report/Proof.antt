@@ -1,6 +1,6 @@
 -- `report::write_report` meets its contract. Assumes nothing.
 use Rattle.std.proofs.Common.{rules}
-use Rattle.report.proofs.Lines.{reported, none-line}
+use Rattle.report.proofs.Lines.{reported, none_line}
 use Rattle.report.proofs.write_report.Statement.{statement}
 use Rattle.report.proofs.write_report.Tie as tie
 
@@ -47,7 +47,7 @@ same-length-2 : tie.Need-same-length-2
 same-length-2 c = search rules
 
 returns-2 : tie.Need-returns-2
-returns-2 c = reported c.before.before.before.before.before.enum_told.given.1 c.before.before.before.before.before.before.before.before.before.put-text.ensures (rw none-line c.before.before.put-text2.ensures)
+returns-2 c = reported c.before.before.before.before.before.enum_told.given.1 c.before.before.before.before.before.before.before.before.before.put-text.ensures (rw none_line c.before.before.put-text2.ensures)
 
 same-length-3 : tie.Need-same-length-3
 same-length-3 c = search rules

@@ -1,6 +1,6 @@
 -- A net that was read is within the limits of compiling. Assumes nothing.
 use borrow.Author.Rules.{rules}
-use Rattle.indexed.proofs.Accepted.{read-limited}
+use Rattle.indexed.proofs.Accepted.{read_limited}
 use Rattle.walk_check.proofs.answer.Statement.{statement}
 use Rattle.walk_check.proofs.answer.Tie as tie
 
@@ -12,7 +12,7 @@ enum-known-transitions c = search rules
 
 walk-requires : tie.Need-walk-requires
 walk-requires c κs =
-    let (few, limited) = read-limited _ _ _ _ _ _ _ c.before.before.before.before.before.transitions.given.1 c.before.before.before.before.before.before.before.read-sheet.ensures.0 c.before.before.before.before.before.before.before.read-sheet.ensures.1 in
+    let (few, limited) = read_limited _ _ _ _ _ _ _ c.before.before.before.before.before.transitions.given.1 c.before.before.before.before.before.before.before.read_sheet.ensures.0 c.before.before.before.before.before.before.before.read_sheet.ensures.1 in
     (few, limited, search rules, search rules)
 
 show-requires : tie.Need-show-requires
