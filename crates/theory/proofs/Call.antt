@@ -77,7 +77,7 @@ module _ (G : Game) (S : Settings G) (M : Lawful G S) (d : ℕ) where
           rw z r
 
       go : (moves p ≡ []) ⊎ Turn G (Regular G d) p → MinimaxKey G p m v
-      go (inl e) = absurd (Memᴰ.not_nil (rw e at x.is_move))
+      go (inl e) = absurd (Memᴰ.not-nil (rw e at x.is_move))
       go (inr t) = record {
         is_move = x.is_move;
         next = lead.next;

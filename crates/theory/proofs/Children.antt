@@ -69,7 +69,7 @@ module _ (G : Game) (S : Settings G) (M : Lawful G S) (s : Side) (p : G.Pos) whe
 
   pub expand_prepared : (l : List ℕ) → Prepared l (expand G S s p l)
   unfolding expand played expanded
-  expand_prepared [] = record { real = λ k i. absurd (Memᴰ.not_nil i); covers = λ t i. absurd (Memᴰ.not_nil i) }
+  expand_prepared [] = record { real = λ k i. absurd (Memᴰ.not-nil i); covers = λ t i. absurd (Memᴰ.not-nil i) }
   expand_prepared (t ∷ l) = go (play p t) refl (expand G S s p l) (expand_prepared l)
     where
       test : (q : Pos) (y : Expanded Pos) → play p t ≡ to q → Prepared l y → (b : Bool) → (must_win && wins G s q) ≡ b → Prepared (t ∷ l) (expanded b t q y)

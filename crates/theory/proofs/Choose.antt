@@ -62,15 +62,15 @@ module _ (G : Game) (S : Settings G) where
   -- the remembered move is a move
   pub remembered_in : (l : List ℕ) (o : Option (Entry Value)) (t : ℕ) → t ∈ remembered G S l o → t ∈ l
   unfolding remembered known_move if_in
-  remembered_in l none t i = absurd (Memᴰ.not_nil i)
+  remembered_in l none t i = absurd (Memᴰ.not-nil i)
   remembered_in l (some e) t i = go e.best i
     where
       test : (u : ℕ) (b : Bool) → contains l u ≡ b → t ∈ if_in b u → t ∈ l
       test u true x j = Memᴰ.cast (Memᴰ.eq_of_singleton j) (contains_in l u x)
-      test u false x j = absurd (Memᴰ.not_nil j)
+      test u false x j = absurd (Memᴰ.not-nil j)
 
       go : (b : Option ℕ) → t ∈ known_move l b → t ∈ l
-      go none j = absurd (Memᴰ.not_nil j)
+      go none j = absurd (Memᴰ.not-nil j)
       go (some u) j = test u (contains l u) refl j
 
 module _ (G : Game) (S : Settings G) (M : Lawful G S) where
@@ -111,7 +111,7 @@ module _ (G : Game) (S : Settings G) (M : Lawful G S) where
 
     check_sound : (v : Value) (l : List ℕ) (st : State S) → Sound G S M st.memo → Fine G S M (Checked v l) (check G S r p v l st)
     unfolding check matched
-    check_sound v [] st sound = record { sound = sound; gives = λ t i. absurd (Memᴰ.not_nil i) }
+    check_sound v [] st sound = record { sound = sound; gives = λ t i. absurd (Memᴰ.not-nil i) }
     check_sound v (t ∷ l) st sound =
         fine_then G S M _ _ st (played_exact t (play p t) refl st sound) (λ x z k h. match (check_sound v l) x h z k (eqv G x v) refl)
       where

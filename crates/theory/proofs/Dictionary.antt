@@ -28,7 +28,7 @@ place_found (d ∷ l) w h = go (place_found l w) (eqb d w) refl h
 
 place_in : (l : List ℕ) (w : ℕ) → w ∈ l → place l w < length l
 unfolding place
-place_in [] w i = absurd (Memᴰ.not_nil i)
+place_in [] w i = absurd (Memᴰ.not-nil i)
 place_in (d ∷ l) w i = go (place_in l w) (Memᴰ.cases_cons i) (eqb d w) refl
   where
     go : (w ∈ l → place l w < length l) → (w ≡ d) ⊎ (w ∈ l) → (x : Bool) → eqb d w ≡ x → cond x 0 (suc (place l w)) < suc (length l)
@@ -41,7 +41,7 @@ Distinct [] = Unit {0}
 Distinct (d ∷ l) = (d ∈ l → ⊥) × Distinct l
 
 distinct_snoc : (l : List ℕ) (w : ℕ) → (w ∈ l → ⊥) → Distinct l → Distinct (l ++ w ∷ [])
-distinct_snoc [] w h d = (λ i. Memᴰ.not_nil i, tt)
+distinct_snoc [] w h d = (λ i. Memᴰ.not-nil i, tt)
 distinct_snoc (x ∷ l) w h d = (λ i. go (Memᴰ.append_cases l i), distinct_snoc l w (λ i. h (Memᴰ.tail i)) d.1)
   where
     go : (x ∈ l) ⊎ (x ∈ w ∷ []) → ⊥
@@ -79,7 +79,7 @@ enter_spec l w = go (ltb (place l w) (length l)) refl (ltb (length l) max_dictio
 -- Counting: distinct words, all of a list, are no more than the list.
 
 without : (d : ℕ) (l : List ℕ) → d ∈ l → (k : List ℕ) × (length l ≡ suc (length k)) × ((x : ℕ) → x ∈ l → (x ≡ d → ⊥) → x ∈ k)
-without d [] i = absurd (Memᴰ.not_nil i)
+without d [] i = absurd (Memᴰ.not-nil i)
 without d (y ∷ l) i = go (without d l) (Memᴰ.cases_cons i)
   where
     Rest : List ℕ → Type 0

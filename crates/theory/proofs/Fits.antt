@@ -64,7 +64,7 @@ module _ (net : Net) where
     where
       go : (l : List ℕ) → moves net m ≡ l → (o : Option Side) → mover net m ≡ o → sided l o ≡ true
           → (s : Side) × ((t : ℕ) → t ∈ moves net m → side_of net t ≡ side_number s)
-      go [] k o h e = (max, λ t i. absurd (Memᴰ.not_nil (rw k at i)))
+      go [] k o h e = (max, λ t i. absurd (Memᴰ.not-nil (rw k at i)))
       go (t ∷ l) k none h e = absurd (true≢false (cc))
       go (t ∷ l) k (some s) h e = (s, mover_side net m s h)
 

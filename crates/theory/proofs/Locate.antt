@@ -27,7 +27,7 @@ words_equal (x ∷ k) (y ∷ l) e = let (a, b) = and_true (eqb x y) (eq_list k l
 
 range_in : (i n j : ℕ) → j ∈ range_from i n → (i ≤ j) × (j < i + n)
 unfolding range_from
-range_in i zero j h = absurd (Memᴰ.not_nil h)
+range_in i zero j h = absurd (Memᴰ.not-nil h)
 range_in i (suc n) j h = go (range_in (suc i) n j) (Memᴰ.cases_cons h)
   where
     go : (j ∈ range_from (suc i) n → (suc i ≤ j) × (j < suc i + n)) → (j ≡ i) ⊎ (j ∈ range_from (suc i) n) → (i ≤ j) × (j < i + suc n)

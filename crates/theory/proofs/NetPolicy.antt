@@ -25,14 +25,14 @@ use Rattle.theory.proofs.NetRules.{net_rules}
 
 flat_in : {u : ℕ} (f : ℕ → List ℕ) (l : List ℕ) → u ∈ flat_map f l → (g : ℕ) × (u ∈ f g)
 unfolding flat_map
-flat_in f [] i = absurd (Memᴰ.not_nil i)
+flat_in f [] i = absurd (Memᴰ.not-nil i)
 flat_in f (g ∷ l) i = ⊎_elim (λ j. (g, j)) (flat_in f l) (Memᴰ.append_cases (f g) i)
 
 module _ (net : Net) where
   -- what can complete a goal is a move
   close_moves : (s : Side) (m : Marking) (g : ℕ) (d : Option ℕ) (u : ℕ) → u ∈ close net s m g d → u ∈ moves net m
   unfolding close feeders moves enabled_of
-  close_moves s m g none u i = absurd (Memᴰ.not_nil i)
+  close_moves s m g none u i = absurd (Memᴰ.not-nil i)
   close_moves s m g (some d) u i = go (leb d (reach net s g)) i
     where
       is_move : u ∈ feeders net s g → leb d (touch net g u) && enabled net m u ≡ true → u ∈ moves net m
@@ -45,7 +45,7 @@ module _ (net : Net) where
 
       go : (b : Bool) → u ∈ cond b (filter (λ u. leb d (touch net g u) && enabled net m u) (feeders net s g)) [] → u ∈ moves net m
       go true i = is_move (filter_in _ (feeders net s g) i) (filter_passes (λ u. leb d (touch net g u) && enabled net m u) (feeders net s g) i)
-      go false i = absurd (Memᴰ.not_nil i)
+      go false i = absurd (Memᴰ.not-nil i)
 
   pub replies_moves : (s : Side) (m : Marking) (u : ℕ) → u ∈ replies_of net s m → u ∈ moves net m
   unfolding replies_of

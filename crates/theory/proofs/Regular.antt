@@ -34,7 +34,7 @@ module _ (G : Game) where
   move_turn d t p h i = go h.turn
     where
       go : (moves p ≡ []) ⊎ Turn G (Regular G d) p → Turn G (Regular G d) p
-      go (inl e) = absurd (Memᴰ.not_nil (rw e at i))
+      go (inl e) = absurd (Memᴰ.not-nil (rw e at i))
       go (inr k) = k
 
   -- a line from a regular position ends in one, at the depth that is left

@@ -168,7 +168,7 @@ module _ (G : Game) (S : Settings G) (M : Lawful G S) where
 
       pub row_sound : (f : Search G S) → SoundSearch G S M f → (l : List (Child Pos)) → ((c : Child Pos) → c ∈ l → (c.move ∈ moves p) × (play p c.move ≡ to c.pos)) → SoundRow l (row G S f s β l)
       unfolding row
-      row_sound f ih [] real α b st sound αβ gate held = record { sound = sound; gives = record { held = held; grows = grows_refl b; caps = λ q j. absurd (Memᴰ.not_nil j) } }
+      row_sound f ih [] real α b st sound αβ gate held = record { sound = sound; gives = record { held = held; grows = grows_refl b; caps = λ q j. absurd (Memᴰ.not-nil j) } }
       row_sound f ih (c ∷ l) real α b st sound αβ gate held =
           let (i, e) = real c (Memᴰ.head refl) in
           let rest = row_sound f ih l (λ d j. real d (Memᴰ.tail j)) in

@@ -24,7 +24,7 @@ Each P [] = Unit {0}
 Each P (f ∷ l) = P f × Each P l
 
 each_in : (P : Form → Type 0) (f : Form) (l : List Form) → Each P l → f ∈ l → P f
-each_in P f [] h i = absurd (Memᴰ.not_nil i)
+each_in P f [] h i = absurd (Memᴰ.not-nil i)
 each_in P f (x ∷ l) h i = ⊎_elim (λ e. rw e h.0) (each_in P f l h.1) (Memᴰ.cases_cons i)
 
 index : (n : ℕ) (z : ℤ) → le_z (pos 0) z && lt_z z (pos n) ≡ true → nat_abs z < n

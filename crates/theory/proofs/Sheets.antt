@@ -108,6 +108,6 @@ pub known_demand_3 : {sheet : List ℕ} → Known sheet → (r : Request) (net :
 known_demand_3 k r net q e A =
     let s = k.solved net (rw e at A.readable) in
     let same = (ready_quiet net (start net) q A.starts).0 in (
-      demand_3 A (rw same at s.premises) (λ none_there. Memᴰ.not_nil (rw (same, none_there) at s.key)),
+      demand_3 A (rw same at s.premises) (λ none_there. Memᴰ.not-nil (rw (same, none_there) at s.key)),
       λ a. worth_unique (int_game net) (net_rules net) a.start_worth (rw same at s.start_worth),
     )

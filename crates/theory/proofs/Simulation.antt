@@ -257,7 +257,7 @@ module _ (G : Game) (W : Values G.Pos) (μ : Memory G) (ν : Memory (valued G W)
 
     expand_real : (s : Side) (p : G.Pos) (l : List ℕ) → Real p → Reals (expand H T s p l)
     unfolding expand played expanded
-    expand_real s p [] k = λ c i. absurd (Memᴰ.not_nil i)
+    expand_real s p [] k = λ c i. absurd (Memᴰ.not-nil i)
     expand_real s p (t ∷ l) k = go (G.play p t) refl (expand_real s p l k)
       where
         test : (b : Bool) (q : G.Pos) → Real q → Reals (expand H T s p l) → Reals (expanded b t q (expand H T s p l))

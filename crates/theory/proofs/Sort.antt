@@ -89,7 +89,7 @@ module _ {A : Type 0} (sooner : A → A → Bool) where
   module _ (one_way : (x y : A) → sooner x y ≡ true → sooner y x ≡ false) (through : (x y z : A) → sooner z y ≡ false → sooner y x ≡ false → sooner z x ≡ false) where
     insert_sorted : (x : A) (l : List A) → Sorted l → Sorted (insert sooner x l)
     unfolding insert placed
-    insert_sorted x [] h = (λ y i. absurd (Memᴰ.not_nil i), tt)
+    insert_sorted x [] h = (λ y i. absurd (Memᴰ.not-nil i), tt)
     insert_sorted x (y ∷ l) h = go (sooner y x) refl (insert_sorted x l h.1)
       where
         go : (b : Bool) → sooner y x ≡ b → Sorted (insert sooner x l) → Sorted (placed sooner b x y l (insert sooner x l))

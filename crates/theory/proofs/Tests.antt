@@ -38,7 +38,7 @@ contains_in (u ∷ l) t e = go (or_true (eqb u t) (contains l t) e) (contains_in
 
 pub in_contains : (l : List ℕ) (t : ℕ) → t ∈ l → contains l t ≡ true
 unfolding contains
-in_contains [] t i = absurd (Memᴰ.not_nil i)
+in_contains [] t i = absurd (Memᴰ.not-nil i)
 in_contains (u ∷ l) t i = go (in_contains l t) (Memᴰ.cases_cons i) (eqb u t) refl
   where
     go : (t ∈ l → contains l t ≡ true) → (t ≡ u) ⊎ (t ∈ l) → (x : Bool) → eqb u t ≡ x → x || contains l t ≡ true
