@@ -1,5 +1,8 @@
 // Program `keymove` (01, "Positions with known keys"): reads a sheet from standard input and writes its key move, with budget 1,000, memo 1,024, scout, must-win and chain 0 1 2.
 // It reads one byte more than a sheet may have, so that an over-long one is refused.
+
+#![tactic(auto)]
+
 ghost use Rattle.std.specs.Prelude.{◌≡◌, ◌≤◌, length, replicate, take};
 ghost use Rattle.rules.specs.Keymove.{keymove};
 

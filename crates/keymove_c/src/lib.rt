@@ -1,4 +1,7 @@
 // The call for programs in C and Rust: the arguments of game::choose, and four words for the answer (specs/Encoding). A slice is a pointer and a length.
+
+#![tactic(auto)]
+
 ghost use Rattle.std.specs.Prelude.{◌≡◌, [], ◌∷◌, ◌++◌, ◌≤◌, length, take, drop};
 ghost use Rattle.keymove_c.specs.Encoding.{value_bits, encoded, served, entry_of};
 ghost use Rattle.rules.specs.Call.{asked};

@@ -2,11 +2,14 @@
 // low first, of what each get answers (its bounds' bits and best move, or 7), and then of every word and tag of the table and every word of the dictionary. Two short runs are
 // written out whole: words, tags, dictionary, and what a get of each key that was stored gives. The file stdout is what the Rust's memo gives on all of these (oracle
 // memo-list); its last three lines, gets from rows that no store wrote, are document 02's reading.
+
+#![tactic(auto)]
+
 ghost use Rattle.std.specs.Prelude.{◌*◌, ◌+◌, ◌^◌, ◌≤◌, ◌<◌, length};
 ghost use Rattle.memo.specs.Sized.{Measured, Sized};
 
 // Where a replay stands.
-#[derive(Drop)]
+#[derive(Clone, Copy)]
 struct State {
     seed: u64,
     n: usize,

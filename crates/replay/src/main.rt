@@ -1,9 +1,12 @@
 // Replays a list of cases (lists/README.md) from standard input: each case is called on memory filled as the list says, and its answer and the hash of the memory left are compared.
 // Writes one line: how many sheets and cases, how many cases gave what the list says, and whether the list is whole.
+
+#![tactic(auto)]
+
 ghost use Rattle.std.specs.Prelude.{◌≡◌, ◌+◌, ◌*◌, ◌<◌, ◌≤◌, length};
 
 // A number of a line, and where the next field begins.
-#[derive(Drop)]
+#[derive(Clone, Copy)]
 struct Found {
     value: u64,
     next: usize,
@@ -151,7 +154,7 @@ fn ends_in(line: &[u8], at: usize, out: &[u8], n: usize, hash: u64) -> bool
 }
 
 // The settings of a case, the lengths of the memory, and where its answer begins in its line.
-#[derive(Drop)]
+#[derive(Clone, Copy)]
 struct Case {
     budget: u64,
     entries: u64,
@@ -242,7 +245,7 @@ fn case_holds(
 }
 
 // How far the list is read: the bytes of the sheet so far, how many sheets and cases there were, how many held, whether the last line was right, and the hash of all lines.
-#[derive(Drop)]
+#[derive(Clone, Copy)]
 struct State {
     n: usize,
     sheets: u64,

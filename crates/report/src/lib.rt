@@ -1,4 +1,7 @@
 // The two lines that program `keymove` prints of an answer (01, "Positions with known keys"), written into lent bytes and equal to their definition.
+
+#![tactic(auto)]
+
 ghost use Rattle.std.specs.Prelude.{◌≡◌, ℕ, suc, ◌+◌, ◌^◌, ◌<◌, ◌≤◌, ◌++◌, length, take, drop, pos, unsigned_abs};
 ghost use Rattle.std.specs.Float.Ieee.{to_signed};
 ghost use Rattle.std.proofs.Math.Option.{some};

@@ -1,6 +1,9 @@
 // Reads a list of sheets from standard input and writes what the reader gives of each; the file stdout holds the answers.
 // The list is in the form of lists/README.md: `s` begins a sheet, `|text` adds text and byte 10, `!text` text alone, `x` bytes in hexadecimal, `*N text` adds text and byte 10
 // N times, and `c` reads the sheet so far. Of a net the program writes its size, the number of its rows and FNV-1a over their words; of a refusal its number and line.
+
+#![tactic(auto)]
+
 ghost use Rattle.std.specs.Prelude.{◌≤◌, ◌<◌, length};
 
 use rules::Refusal;

@@ -1,11 +1,14 @@
 // Program `solve`: the call with its settings as arguments, solve BUDGET ENTRIES DRIVER FILTERS CHAIN, on a sheet from standard input. CHAIN is a digit for each piece, `-` for none.
 // Writes the two lines of `keymove` to standard output, and a refusal in words to standard error. A number out of range goes to the call, which refuses it; what is no number gets a line on the usage.
+
+#![tactic(auto)]
+
 ghost use Rattle.std.specs.Prelude.{◌<◌, ◌≤◌, length};
 
 use rules::{Answer, Refusal};
 
 // A setting: its number, at most 2^64 - 1, or that it is none.
-#[derive(Drop)]
+#[derive(Clone, Copy)]
 enum Given {
     Is(u64),
     Malformed,

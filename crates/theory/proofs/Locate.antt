@@ -157,7 +157,7 @@ module _ (s : Shape) (ways : 0 < s.ways) (buckets : 0 < s.buckets) (m : Memo) wh
     weakest_row : (i : ℕ) (l : List ℕ) → i < rows s → ((j : ℕ) → j ∈ l → j < rows s) → weakest s m i l < rows s
     unfolding weakest
     weakest_row i [] h f = h
-    weakest_row i (j ∷ l) h f = weakest_row _ l (go (ltb (rank s m j) (rank s m i))) (λ x k. f x (Memᴰ.tail k))
+    weakest_row i (j ∷ l) h f = weakest_row (cond (ltb (rank s m j) (rank s m i)) j i) l (go (ltb (rank s m j) (rank s m i))) (λ x k. f x (Memᴰ.tail k))
       where
         go : (x : Bool) → cond x j i < rows s
         go true = f j (Memᴰ.head refl)

@@ -45,7 +45,7 @@ module _ (G : Game) where
   below_regular {p} (suc d) (by {q} {t} i e b) h =
       let (x, f, r) = (move_turn d t p h i).next t i in
       let same : x ≡ q = cc in
-      let (c, left, k) = below_regular d b (rw same at r) in
+      let (c, left, k) = below_regular {p = q} d b (rw same at r) in
       (c, omega arith, k)
 
   pub regular_uncaused : {p : Pos} {r : Refusal} (d : ℕ) → Regular G d p → Cause G d p r → ⊥

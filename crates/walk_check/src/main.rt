@@ -2,6 +2,9 @@
 // The file stdout is what the Rust's walk gives on the same list (tools/oracle: walk-list). A line `w` of the list holds the moves, two hexadecimal digits each
 // (lists/README.md). A walk begins at the start, and begins there again where no move is left; a move that is not played to its end leaves the position as it was.
 // The hash is FNV-1a, 64 bits, of words: for each move how its play ended (0: settled, 1: spilled, 2: endless), and at the start and after each move what `seen` takes.
+
+#![tactic(auto)]
+
 ghost use Rattle.std.specs.Prelude.{◌≡◌, ◌≤◌, ◌<◌, length};
 ghost use Rattle.sheet.specs.Packed.{net_in};
 ghost use Rattle.bits.specs.Compiled.{net_words};
@@ -11,7 +14,7 @@ use bits::{Bitset, Played, Position, Turn};
 use sheet::Read;
 
 // Where a walk stands.
-#[derive(Drop)]
+#[derive(Clone, Copy)]
 struct Stand {
     at: Position,
     hash: u64,
