@@ -95,7 +95,7 @@ minus_one_back f e = to_z-of_z (minus_one_fits f e) ∙ from_minus_one f e
 
 -- a whole part, as it is handed on
 pub passed : {z : ℤ} (v : Float) → z ≡ to_signed 63 v → to_z w64 (of_z w64 z) ≡ to_signed 63 v
-passed {z} v e = ap (λ (y : ℤ). to_z w64 (of_z w64 y)) e ∙ to_z-of_z (record { sfits = to_signed_in 63 v })
+passed {z} v e = ap (λ (y : ℤ). to_z w64 (of_z w64 y)) e ∙ to_z-of_z {w = w64} (record { sfits = to_signed_in 63 v })
 
 -- what is printed of an integer
 

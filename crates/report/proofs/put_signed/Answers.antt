@@ -8,9 +8,9 @@ pub returns-then-z-lt0 : goal.returns-then-z-lt0
 returns-then-z-lt0 c =
     let e = the_same c.ranges.z c.if-z-lt0.true in
     let p = placed_then c.put_text-to.ensures c.put_number.ensures.0 in
-    (rw (shown_negative c.args.z e, ← c.type_size.ensures ∙ ap nat_abs (to_z-of_z c.ranges.z)) p, omega (arith, c.put_text-to.ensures.ends, c.put_number.ensures.1))
+    (rw (shown_negative c.args.z e, ← c.size_of-n.ensures ∙ ap nat_abs (to_z-of_z c.ranges.z)) p, omega (arith, c.put_text-to.ensures.ends, c.put_number.ensures.1))
 
 pub returns : goal.returns
 returns c =
     let e = the_same c.ranges.z c.if-z-lt0.false in
-    (rw (shown_plain c.args.z e, ← c.type_size.ensures ∙ ap nat_abs (to_z-of_z c.ranges.z)) c.put_number-2.ensures.0, omega (arith, c.put_number-2.ensures.1))
+    (rw (shown_plain c.args.z e, ← c.size_of-n.ensures ∙ ap nat_abs (to_z-of_z c.ranges.z)) c.put_number-2.ensures.0, omega (arith, c.put_number-2.ensures.1))

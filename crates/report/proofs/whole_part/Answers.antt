@@ -5,7 +5,8 @@ use Rattle.report.proofs.whole_part.Goals as goal
 
 pub truncating_f64_to_i64-requires : goal.truncating_f64_to_i64-requires
 unfolding of_bits neg
-truncating_f64_to_i64-requires c = (subst T (sym c.if-v-2.true) tt, subst T (sym c.if-v.true) tt)
+truncating_f64_to_i64-requires c =
+    record { lower_bound = subst T (sym c.if-v-2.true) tt; upper_bound = subst T (sym c.if-v.true) tt }
 
 pub returns-then-v : goal.returns-then-v
 unfolding of_bits neg
