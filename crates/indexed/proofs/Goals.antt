@@ -66,6 +66,7 @@ module _ (f : Row → ℤ) (a b : Row → Bool) where
 -- ---- the words' next row
 
 mem_left : {r : Row} (l m : List Row) → Memᴰ r l → Memᴰ r (l ++ m)
+mem_left {r = r} [] m x' = elim x' [ ]
 mem_left (x ∷ l) m (Memᴰ.head e) = Memᴰ.head e
 mem_left (x ∷ l) m (Memᴰ.tail i) = Memᴰ.tail (mem_left l m i)
 
