@@ -2,3 +2,4 @@
 pub mod Runs
 pub mod Picking
 pub mod Calling
+pub mod Others
