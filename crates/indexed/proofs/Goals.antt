@@ -1,13 +1,13 @@
 -- What places and transitions pay, row by row. Assumes nothing.
-use mathlib.Core.Path.{◌≡◌, refl, sym, ap, ap₂, subst, ◌∙◌}
+use mathlib.Core.Path.{◌≡◌, refl, sym, ap, subst, ◌∙◌}
 use mathlib.Core.Bool.{Bool, true, false, cond, ◌&&◌}
 use mathlib.Core.List.Memᴰ
 use mathlib.Core.List.{List, [], ◌∷◌, ◌++◌, map, map-append, Memᴰ}
-use Prim.Native.Nat.{ℕ, zero, suc, ◌+◌, ◌-◌, ◌*◌, ◌/◌, ◌%◌, ◌^◌, ◌≤◌, ◌<◌, zero-le}
+use Prim.Native.Nat.{ℕ, ◌+◌, ◌*◌, ◌/◌, ◌%◌, ◌^◌, ◌≤◌, ◌<◌, zero-le}
 use native.Mathlib.Nat.{mul-suc, mul-le-mul, mul-le-mul_left, le_trans, le_of_eq}
 use native.Mathlib.Omega.{arith}
 use lib.Dec.{eqb}
-use lib.IntN.{ℤ, pos, nat_abs, ◌+ℤ◌, ◌-ℤ◌, ◌*ℤ◌, +ℤ_idr, +ℤ_idl}
+use lib.IntN.{ℤ, pos, nat_abs, ◌+ℤ◌, ◌*ℤ◌, +ℤ_idr, +ℤ_idl}
 use lib.Ieee.{Float, binary64, add, mul, of_bits}
 use lib.ListN.{length, get_or, take, drop, length-append}
 use lib.Seq.{length-take-le, get_or-take}
@@ -20,14 +20,13 @@ use Rattle.whole.specs.Whole.{whole_f, Small, Whole}
 use Rattle.whole.proofs.Ints.{nat_abs_add, nat_abs_mul, sum-append}
 use Rattle.whole.proofs.Wholes.{zero_whole, add_small, add-mul_whole}
 use Rattle.rules.specs.Limits.{max_number, max_rows}
-use Rattle.rules.specs.Net.{Kind, Row, Net, pay, output, is, code, rows_of, arcs}
+use Rattle.rules.specs.Net.{Row, Net, pay, output, is, code, rows_of, arcs}
 use Rattle.rules.specs.Goals.{reward_at, paid}
-use Rattle.rules.specs.Sheet.{with_row}
 use Rattle.sheet.specs.Packed.{kind_of, unpack, net_in}
 use Rattle.indexed.specs.Limited.{Limited}
 use Rattle.indexed.specs.Goals.{reward_part, paid_part}
 use Rattle.indexed.proofs.Conditions.{packed, code_is}
-use Rattle.indexed.proofs.Rows.{over_rows, net_more, rows_split}
+use Rattle.indexed.proofs.Rows.{net_more, rows_split}
 
 -- ---- sums over rows that pass two tests
 

@@ -1,5 +1,5 @@
 -- The line of each answer, and the report that it ends. Assumes nothing.
-use Rattle.std.proofs.Common.{◌≡◌, ℕ, ◌≤◌, List, ◌++◌, length, take, drop, pos, refl, ap, ◌∙◌, append_assoc, arith}
+use Rattle.std.proofs.Common.{◌≡◌, ℕ, ◌≤◌, List, ◌++◌, length, take, drop, pos, refl, ◌∙◌, append_assoc, arith}
 use mathlib.Core.Option.{some}
 use lib.Ieee.{Float, to_signed}
 use Rattle.rules.specs.declared.Refusal.{Refusal}

@@ -1,5 +1,5 @@
 -- Numbers in decimal, and the whole part of an f64. Assumes nothing.
-use Rattle.std.proofs.Common.{◌≡◌, ℕ, zero, suc, ◌+◌, ◌*◌, ◌/◌, ◌%◌, ◌^◌, ◌<◌, ◌≤◌, true, false, cond, ltb, List, [], ◌∷◌, ◌++◌, length, set, pos, sym, refl, ap, ◌∙◌, pow-suc, arith, length-append, ltb-false, le-ltb, lt-ltb}
+use Rattle.std.proofs.Common.{◌≡◌, ℕ, zero, suc, ◌+◌, ◌/◌, ◌%◌, ◌^◌, ◌<◌, ◌≤◌, ltb, List, [], ◌∷◌, ◌++◌, length, set, pos, ap, pow-suc, arith, length-append, le-ltb, lt-ltb}
 use mathlib.Core.Option.{some}
 use Rattle.words.proofs.Lists.{by_test}
 use Rattle.rules.specs.Answer.{digits, shown}

@@ -1,5 +1,5 @@
 -- Texts put one behind another. Assumes nothing.
-use Rattle.std.proofs.Common.{◌≡◌, ℕ, suc, ◌+◌, ◌<◌, ◌≤◌, List, [], ◌∷◌, ◌++◌, length, get_or, take, drop, set, sym, refl, ap, ◌∙◌, append_assoc, append-nil, add-zero, add_assoc, add-one, arith, length-append, length-drop, length-set, take-append-drop, length-take, length-take-le, take_all, take-suc, drop-drop, take_at}
+use Rattle.std.proofs.Common.{◌≡◌, ℕ, ◌+◌, ◌<◌, ◌≤◌, List, [], ◌∷◌, ◌++◌, length, get_or, take, drop, set, sym, refl, ap, ◌∙◌, append_assoc, add-zero, add_assoc, add-one, arith, length-append, length-drop, take-append-drop, length-take-le, take_all, take-suc, drop-drop, take_at}
 use lib.Seq.{drop-append-add, set_split}
 use Rattle.report.specs.Placed.{Placed}
 

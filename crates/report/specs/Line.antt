@@ -3,7 +3,7 @@ use Rattle.std.proofs.Math.Option.{some}
 use Rattle.std.specs.Prelude.{ℕ, List, ◌++◌, pos}
 use Rattle.rules.specs.declared.Answer.{Answer}
 use Rattle.rules.specs.Text.{bytes}
-use Rattle.rules.specs.Answer.{Columns, columns, shown}
+use Rattle.rules.specs.Answer.{columns, shown}
 
 abbrev pub ending : ℕ → List ℕ
 ending n = bytes " " ++ (shown (some (pos n)) ++ bytes "\n")

@@ -1,7 +1,7 @@
 -- The memo never grows at this size (01, "The memo"): memo.rs starts with as many buckets as it may ever have, for every number of entries that 01 allows.
 -- Assumes nothing.
 use mathlib.Core.Path.{◌≡◌}
-use Prim.Native.Nat.{ℕ, ◌+◌, ◌*◌, ◌/◌, ◌≤◌, ◌<◌, max as maxℕ, min as minℕ}
+use Prim.Native.Nat.{ℕ, ◌/◌, ◌≤◌, ◌<◌, max as maxℕ, min as minℕ}
 use native.Mathlib.Omega.{arith}
 use native.Mathlib.Nat.{le-div_iff_mul-le, div-mul-le_self}
 use Rattle.rules.specs.Limits.{max_entries, max_ways}

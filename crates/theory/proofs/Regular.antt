@@ -1,7 +1,7 @@
 -- Under the premises on play nothing gives cause for a refusal; so a run with no budget, which refuses only with a cause, ends in a value.
 -- Assumes nothing.
 use mathlib.Core.Path.{◌≡◌}
-use mathlib.Core.Bool.{true, false, true≢false}
+use mathlib.Core.Bool.{true≢false}
 use mathlib.Core.List.Memᴰ
 use mathlib.Core.List.{[]}
 use mathlib.Core.Logic.{◌⊎◌, inl, inr}

@@ -1,6 +1,5 @@
 -- `keymove_c::encode` meets its contract. Assumes nothing.
 use Rattle.keymove_c.proofs.Coding.{coded}
-use borrow.Author.Rules.{rules}
 use Rattle.keymove_c.proofs.encode.Goals as goal
 
 pub returns-in-Exact : goal.returns-in-Exact

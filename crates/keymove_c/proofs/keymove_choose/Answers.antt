@@ -1,7 +1,6 @@
 -- The entry, by the call and its encoding. Assumes nothing.
 use Rattle.rules.specs.Call.{asked}
 use Rattle.keymove_c.proofs.Entry.{entry_short, entry_full}
-use borrow.Author.Rules.{rules}
 use Rattle.keymove_c.proofs.keymove_choose.Goals as goal
 
 pub returns-then-out-lt4 : goal.returns-then-out-lt4

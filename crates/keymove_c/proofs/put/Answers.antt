@@ -2,7 +2,6 @@
 use native.Mathlib.Omega.{arith}
 use lib.ListN.{length-set}
 use Rattle.keymove_c.proofs.Coding.{four}
-use borrow.Author.Rules.{rules}
 use Rattle.keymove_c.proofs.put.Goals as goal
 
 pub bounds-out-1 : goal.bounds-out-1

@@ -4,7 +4,6 @@ use mathlib.Core.Bool.{true, not}
 use lib.Dec.{T}
 use lib.Ieee.{Float, nan, inf, fin, lt, le, eq, is_nan}
 use Rattle.words.proofs.Lists.{not_both}
-use borrow.Author.Rules.{rules}
 use Rattle.lists.proofs.float_bits.Goals as goal
 
 real : (x : Float) → le x x ≡ true → T (not (is_nan x))

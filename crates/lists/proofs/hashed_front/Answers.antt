@@ -2,7 +2,6 @@
 use mathlib.Core.Path.{sym}
 use native.Mathlib.Omega.{arith}
 use lib.Seq.{length-take-le}
-use borrow.Author.Rules.{rules}
 use Rattle.lists.proofs.hashed_front.Goals as goal
 
 pub slice_bounds-hashed_words-end : goal.slice_bounds-hashed_words-end

@@ -1,5 +1,5 @@
 -- A number's digits: those of a tenth of it, and one more.
-use Rattle.std.proofs.Common.{ℕ, ◌/◌, ◌<◌, ◌∙◌, arith, length-set}
+use Rattle.std.proofs.Common.{◌/◌, arith}
 use Rattle.report.proofs.Placing.{placed_byte}
 use Rattle.report.proofs.Numbers.{one_digit, number_then, number_room}
 use Rattle.report.proofs.+put_digits.Goals as goal

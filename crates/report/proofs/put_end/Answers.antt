@@ -1,5 +1,4 @@
 -- `report::put_end` meets its contract. Assumes nothing.
-use Rattle.std.proofs.Common.{rules}
 use Rattle.report.proofs.Placing.{placed_then}
 use Rattle.report.proofs.put_end.Goals as goal
 

@@ -1,5 +1,4 @@
 -- `report::put_exact` meets its contract. Assumes nothing.
-use Rattle.std.proofs.Common.{rules}
 use Rattle.report.proofs.Placing.{placed_then}
 use Rattle.report.proofs.Casts.{passed}
 use Rattle.report.proofs.Lines.{exact_line}

@@ -1,5 +1,4 @@
 -- `report::put_number` meets its contract. Assumes nothing.
-use Rattle.std.proofs.Common.{rules}
 use Rattle.report.proofs.Numbers.{number_shown}
 use Rattle.report.proofs.put_number.Goals as goal
 

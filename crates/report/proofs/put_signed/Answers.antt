@@ -1,5 +1,5 @@
 -- `report::put_signed` meets its contract. Assumes nothing.
-use Rattle.std.proofs.Common.{nat_abs, ap, ◌∙◌, arith, to_z-of_z, rules}
+use Rattle.std.proofs.Common.{nat_abs, ap, ◌∙◌, arith, to_z-of_z}
 use Rattle.report.proofs.Placing.{placed_then}
 use Rattle.report.proofs.Casts.{the_same, shown_negative, shown_plain}
 use Rattle.report.proofs.put_signed.Goals as goal

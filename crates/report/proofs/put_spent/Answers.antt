@@ -1,5 +1,4 @@
 -- `report::put_spent` meets its contract. Assumes nothing.
-use Rattle.std.proofs.Common.{rules}
 use Rattle.report.proofs.Placing.{placed_then}
 use Rattle.report.proofs.Lines.{spent_line}
 use Rattle.report.proofs.put_spent.Goals as goal

@@ -1,7 +1,5 @@
 -- `report::put_text` meets its contract: after i bytes the first i of the text stand from `at` on. Assumes nothing.
-use Rattle.std.proofs.Common.{◌≡◌, ℕ, ◌+◌, ◌-◌, ◌≤◌, length, take, sym, refl, ap, ◌∙◌, arith}
-use lib.Seq.{take-length}
-use Rattle.report.specs.Placed.{Placed}
+use Rattle.std.proofs.Common.{arith}
 use Rattle.report.proofs.Placing.{placed_begin, placed_length, placed_next, placed_whole}
 use Rattle.report.proofs.put_text.Goals as goal
 

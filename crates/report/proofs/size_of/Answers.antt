@@ -1,5 +1,5 @@
 -- `report::size_of` meets its contract. Assumes nothing.
-use Rattle.std.proofs.Common.{nat_abs, ap, ◌∙◌, arith, to_z-of_z}
+use Rattle.std.proofs.Common.{nat_abs, ap, arith, to_z-of_z}
 use Rattle.report.proofs.Casts.{the_same, not_negative, size_fits, minus_one_fits, minus_one_back, negative_size}
 use Rattle.report.proofs.size_of.Goals as goal
 

@@ -1,4 +1,4 @@
-use Rattle.std.proofs.Common.{T, sym, subst, rules}
+use Rattle.std.proofs.Common.{T, sym, subst}
 use lib.Ieee.{of_bits, neg}
 use Rattle.report.proofs.Casts.{part_low, part_high, part_nan}
 use Rattle.report.proofs.whole_part.Goals as goal

@@ -1,5 +1,4 @@
 -- `report::write_report` meets its contract. Assumes nothing.
-use Rattle.std.proofs.Common.{rules}
 use Rattle.report.proofs.Lines.{reported, none_line}
 use Rattle.report.proofs.write_report.Goals as goal
 

@@ -1,5 +1,4 @@
 -- `whole::bits_of` meets its contract. Assumes nothing.
-use borrow.Author.Rules.{rules}
 use Rattle.whole.proofs.Wholes.{not_nan}
 use Rattle.whole.proofs.bits_of.Goals as goal
 
