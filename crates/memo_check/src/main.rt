@@ -8,6 +8,8 @@
 ghost use Rattle.std.specs.Prelude.{◌*◌, ◌+◌, ◌^◌, ◌≤◌, ◌<◌, length};
 ghost use Rattle.memo.specs.Sized.{Measured, Sized};
 
+use std::io;
+
 // Where a replay stands.
 #[derive(Clone, Copy)]
 struct State {
@@ -288,9 +290,9 @@ fn wide(x: u8) -> u64 {
     x as u64
 }
 
-fn print(n: u64, end: &[u8]) {
-    io::print_decimal(1, n);
-    io::write_all(1, end);
+fn print(rt: &impl Print, n: u64, end: &[u8]) -> io::Result<()> {
+    rt.print(n)?;
+    rt.write_all(end)
 }
 
 // A replay on one table: how many words its dictionary then has, and the hash.
@@ -318,6 +320,7 @@ fn run(
 
 // The line of one table, in memory that is lent.
 fn replay(
+    rt: &impl Print,
     words: &mut [u64],
     tags: &mut [u8],
     dict: &mut [u64],
@@ -325,7 +328,7 @@ fn replay(
     kw: usize,
     compact: bool,
     seed: u64,
-)
+) -> io::Result<()>
     requires { (1 ≤ entries) × (entries ≤ 1024) × (2 ≤ kw) × (kw ≤ 4) × (7168 ≤ length words.old) × (1024 ≤ length tags.old) × (255 ≤ length dict.old) }
 {
     let table = memo::new_table(entries, 64 * kw, compact);
@@ -339,11 +342,11 @@ fn replay(
         entries as u64,
         seed,
     );
-    print(entries as u64, b" ");
-    print(kw as u64, b" ");
-    print(number(compact), b" ");
-    print(st.n as u64, b" ");
-    print(st.hash, b"\n");
+    print(rt, entries as u64, b" ")?;
+    print(rt, kw as u64, b" ")?;
+    print(rt, number(compact), b" ")?;
+    print(rt, st.n as u64, b" ")?;
+    print(rt, st.hash, b"\n")
 }
 
 fn number(b: bool) -> u64 {
@@ -440,22 +443,21 @@ fn stores(
 }
 
 // Writes what a get answers.
-fn print_got(g: memo::Got) {
+fn print_got(rt: &impl Print, g: memo::Got) -> io::Result<()> {
     match g {
         memo::Got::Hit(e) => {
-            io::write_all(1, b"get ");
-            print(lists::float_bits(e.lo), b" ");
-            print(lists::float_bits(e.hi), b" ");
-            print(e.best, b"\n");
+            rt.write_all(b"get ")?;
+            print(rt, lists::float_bits(e.lo), b" ")?;
+            print(rt, lists::float_bits(e.hi), b" ")?;
+            print(rt, e.best, b"\n")
         }
-        memo::Got::Miss => {
-            io::write_all(1, b"get -\n");
-        }
+        memo::Got::Miss => rt.write_all(b"get -\n"),
     }
 }
 
 // Writes what a get of the key of three words gives; moves 0 to 10 are moves.
 fn look(
+    rt: &impl Print,
     words: &[u64],
     tags: &[u8],
     dict: &[u64],
@@ -464,17 +466,18 @@ fn look(
     k0: u64,
     k1: u64,
     k2: u64,
-)
+) -> io::Result<()>
     requires { Sized table words.now tags.now dict.now n }
 {
     let g = memo::get(
         words, tags, dict, n, table, -1000000.0, 1000000.0, k0, k1, k2, 0, 2047, 0, 0, 0,
     );
-    print_got(g);
+    print_got(rt, g)
 }
 
 // Writes what a get of the key gives that stands at a place of a run.
 fn look_row(
+    rt: &impl Print,
     words: &[u64],
     tags: &[u8],
     dict: &[u64],
@@ -482,17 +485,18 @@ fn look_row(
     table: memo::Table,
     run: &[u8],
     at: usize,
-)
+) -> io::Result<()>
     requires { Sized table words.now tags.now dict.now n × (at < 100) × (at + 7 ≤ length run.now) }
 {
     let k0 = number_at(run, at);
     let k1 = number_at(run, at + 1);
     let k2 = number_at(run, at + 2);
-    look(words, tags, dict, n, table, k0, k1, k2);
+    look(rt, words, tags, dict, n, table, k0, k1, k2)
 }
 
 // Writes what a get of each key of a run gives.
 fn looks(
+    rt: &impl Print,
     words: &[u64],
     tags: &[u8],
     dict: &[u64],
@@ -500,49 +504,51 @@ fn looks(
     table: memo::Table,
     run: &[u8],
     count: usize,
-)
+) -> io::Result<()>
     requires { Sized table words.now tags.now dict.now n × (count ≤ 10) × (7 * count ≤ length run.now) }
 {
     let mut i = 0;
     while i < count {
-        look_row(words, tags, dict, n, table, run, 7 * i);
+        look_row(rt, words, tags, dict, n, table, run, 7 * i)?;
         i += 1;
     }
+    Ok(())
 }
 
 // Writes words, one space between.
-fn print_words(name: &[u8], words: &[u64]) {
-    io::write_all(1, name);
+fn print_words(rt: &impl Print, name: &[u8], words: &[u64]) -> io::Result<()> {
+    rt.write_all(name)?;
     let mut i = 0;
     while i < words.len() {
-        io::write_all(1, b" ");
-        io::print_decimal(1, words[i]);
+        rt.write_all(b" ")?;
+        rt.print(words[i])?;
         i += 1;
     }
-    io::write_all(1, b"\n");
+    rt.write_all(b"\n")
 }
 
-fn print_tags(tags: &[u8]) {
-    io::write_all(1, b"tags");
+fn print_tags(rt: &impl Print, tags: &[u8]) -> io::Result<()> {
+    rt.write_all(b"tags")?;
     let mut i = 0;
     while i < tags.len() {
-        io::write_all(1, b" ");
-        io::print_decimal(1, wide(tags[i]));
+        rt.write_all(b" ")?;
+        rt.print(wide(tags[i]))?;
         i += 1;
     }
-    io::write_all(1, b"\n");
+    rt.write_all(b"\n")
 }
 
 // Writes the first n words, if there are so many.
-fn print_front(name: &[u8], words: &[u64], n: usize) {
+fn print_front(rt: &impl Print, name: &[u8], words: &[u64], n: usize) -> io::Result<()> {
     if words.len() < n {
-        return;
+        return Ok(());
     }
-    print_words(name, &words[..n]);
+    print_words(rt, name, &words[..n])
 }
 
 // Writes what a run left, and what a get of each of its keys gives.
 fn shown(
+    rt: &impl Print,
     words: &[u64],
     tags: &[u8],
     dict: &[u64],
@@ -550,33 +556,35 @@ fn shown(
     table: memo::Table,
     run: &[u8],
     count: usize,
-)
+) -> io::Result<()>
     requires { Sized table words.now tags.now dict.now n × (count ≤ 10) × (7 * count ≤ length run.now) }
 {
-    print_words(b"words", words);
-    print_tags(tags);
-    print_front(b"dictionary", dict, n);
-    looks(words, tags, dict, n, table, run, count);
+    print_words(rt, b"words", words)?;
+    print_tags(rt, tags)?;
+    print_front(rt, b"dictionary", dict, n)?;
+    looks(rt, words, tags, dict, n, table, run, count)
 }
 
 // A short run on one table, written out whole.
 fn written(
+    rt: &impl Print,
     words: &mut [u64],
     tags: &mut [u8],
     dict: &mut [u64],
     table: memo::Table,
     run: &[u8],
     count: usize,
-)
+) -> io::Result<()>
     requires { Sized table words.old tags.old dict.old 0 × (count ≤ 10) × (7 * count ≤ length run.now) }
 {
     memo::clear(words, tags);
     let n = stores(words, tags, dict, table, run, count);
-    shown(words, tags, dict, n, table, run, count);
+    shown(rt, words, tags, dict, n, table, run, count)
 }
 
 // The same in memory that is lent.
 fn written_in(
+    rt: &impl Print,
     words: &mut [u64],
     tags: &mut [u8],
     dict: &mut [u64],
@@ -585,36 +593,37 @@ fn written_in(
     compact: bool,
     run: &[u8],
     count: usize,
-)
+) -> io::Result<()>
     requires { (1 ≤ entries) × (entries ≤ 1024) × (2 ≤ kw) × (kw ≤ 4) × (7168 ≤ length words.old) × (1024 ≤ length tags.old) × (255 ≤ length dict.old) × (count ≤ 10) × (7 * count ≤ length run.now) }
 {
     let table = memo::new_table(entries, 64 * kw, compact);
     let total = memo::table_words(table);
     let rows = memo::rows(table);
     written(
+        rt,
         &mut words[..total],
         &mut tags[..rows],
         dict,
         table,
         run,
         count,
-    );
+    )
 }
 
 // Six stores in one bucket: one is met with its row, and the last replaces the weakest.
-fn six(words: &mut [u64], tags: &mut [u8], dict: &mut [u64])
+fn six(rt: &impl Print, words: &mut [u64], tags: &mut [u8], dict: &mut [u64]) -> io::Result<()>
     requires { (7168 ≤ length words.old) × (1024 ≤ length tags.old) × (255 ≤ length dict.old) }
 {
     let run = b"100A1032000011300A0_010001114001129500AA02";
-    written_in(words, tags, dict, 5, 2, true, run, 6);
+    written_in(rt, words, tags, dict, 5, 2, true, run, 6)
 }
 
 // Ten stores in two buckets: both fill, and the second is used.
-fn ten(words: &mut [u64], tags: &mut [u8], dict: &mut [u64])
+fn ten(rt: &impl Print, words: &mut [u64], tags: &mut [u8], dict: &mut [u64]) -> io::Result<()>
     requires { (7168 ≤ length words.old) × (1024 ≤ length tags.old) × (255 ≤ length dict.old) }
 {
     let run = b"101D512202C524303B531404A54350505506061562707257480835819094593:0:55:0";
-    written_in(words, tags, dict, 8, 3, false, run, 10);
+    written_in(rt, words, tags, dict, 8, 3, false, run, 10)
 }
 
 fn put_word(words: &mut [u64], i: usize, w: u64)
@@ -638,7 +647,13 @@ fn alter(words: &mut [u64], tags: &mut [u8], dict: &mut [u64], meta: u64)
 
 // What a get of key 1 gives where its row has that meta word. A bound that is no number between the net's bounds, or whose index lies past the dictionary, reads as the net's own,
 // and a move that is none as none; a row of the counted engine (bit 63) is not found.
-fn altered(words: &mut [u64], tags: &mut [u8], dict: &mut [u64], meta: u64)
+fn altered(
+    rt: &impl Print,
+    words: &mut [u64],
+    tags: &mut [u8],
+    dict: &mut [u64],
+    meta: u64,
+) -> io::Result<()>
     requires { (7168 ≤ length words.old) × (1024 ≤ length tags.old) × (255 ≤ length dict.old) }
 {
     let table = memo::new_table(5, 128, true);
@@ -646,16 +661,17 @@ fn altered(words: &mut [u64], tags: &mut [u8], dict: &mut [u64], meta: u64)
     let total = memo::table_words(table);
     let rows = memo::rows(table);
     alter(words, tags, dict, meta);
-    look(words, tags, dict, 3, table, 1, 0, 0);
+    look(rt, words, tags, dict, 3, table, 1, 0, 0)
 }
 
-fn main() {
+fn main(rt: HostRuntime) -> io::Result<()> {
     let mut words = [0u64; 7168];
     let mut tags = [0u8; 1024];
     let mut dict = [0u64; 255];
     let mut i = 0;
     while i < 54 {
         replay(
+            &rt,
             &mut words,
             &mut tags,
             &mut dict,
@@ -663,12 +679,12 @@ fn main() {
             2 + i % 3,
             i / 3 % 2 == 1,
             88172645463325252 + i as u64,
-        );
+        )?;
         i += 1;
     }
-    six(&mut words, &mut tags, &mut dict);
-    ten(&mut words, &mut tags, &mut dict);
-    altered(&mut words, &mut tags, &mut dict, 0x0200_0301_0000_000b);
-    altered(&mut words, &mut tags, &mut dict, 0x0200_0002_0000_000a);
-    altered(&mut words, &mut tags, &mut dict, 0x8200_0000_0000_0000);
+    six(&rt, &mut words, &mut tags, &mut dict)?;
+    ten(&rt, &mut words, &mut tags, &mut dict)?;
+    altered(&rt, &mut words, &mut tags, &mut dict, 0x0200_0301_0000_000b)?;
+    altered(&rt, &mut words, &mut tags, &mut dict, 0x0200_0002_0000_000a)?;
+    altered(&rt, &mut words, &mut tags, &mut dict, 0x8200_0000_0000_0000)
 }
