@@ -3,7 +3,7 @@ use Prim.Native.Nat.{◌≤◌, ◌-◌}
 use Rattle.memo_check.proofs.looks.Given as goal
 
 abbrev pub invariant-loop-i : goal.invariant-loop-i
-invariant-loop-i l = l.initial.i ≤ l.run
+invariant-loop-i g l = l.i ≤ l.count
 
 abbrev pub decreases-loop-i : goal.decreases-loop-i
-decreases-loop-i l = l.run - l.initial.i
+decreases-loop-i g l = l.count - l.i

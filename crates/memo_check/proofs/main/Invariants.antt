@@ -5,7 +5,7 @@ use lib.ListN.{length}
 use Rattle.memo_check.proofs.main.Given as goal
 
 abbrev pub invariant-loop-i : goal.invariant-loop-i
-invariant-loop-i l = (l.dict ≤ 54) × (length l.initial.i ≡ 7168) × (length l.words ≡ 1024) × (length l.tags ≡ 255)
+invariant-loop-i l = (l.i ≤ 54) × (length l.words ≡ 7168) × (length l.tags ≡ 1024) × (length l.dict ≡ 255)
 
 abbrev pub decreases-loop-i : goal.decreases-loop-i
-decreases-loop-i l = 54 - l.dict
+decreases-loop-i l = 54 - l.i

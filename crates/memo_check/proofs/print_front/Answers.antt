@@ -6,4 +6,4 @@ use borrow.Author.Rules.{rules}
 use Rattle.memo_check.proofs.print_front.Goals as goal
 
 pub slice_bounds-print_words-end : goal.slice_bounds-print_words-end
-slice_bounds-print_words-end c = sym (length-take-le _ _ (omega arith))
+slice_bounds-print_words-end g c = sym (length-take-le _ _ (omega arith))

@@ -4,7 +4,7 @@ use lib.ListN.{length}
 use Rattle.memo_check.proofs.print_tags.Given as goal
 
 abbrev pub invariant-loop-i : goal.invariant-loop-i
-invariant-loop-i l = i ≤ length l.rt
+invariant-loop-i g l = l.i ≤ length l.tags
 
 abbrev pub decreases-loop-i : goal.decreases-loop-i
-decreases-loop-i l = length l.rt - i
+decreases-loop-i g l = length l.tags - l.i

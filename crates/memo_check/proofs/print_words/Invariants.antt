@@ -4,7 +4,7 @@ use lib.ListN.{length}
 use Rattle.memo_check.proofs.print_words.Given as goal
 
 abbrev pub invariant-loop-i : goal.invariant-loop-i
-invariant-loop-i l = i ≤ length l.name
+invariant-loop-i g l = l.i ≤ length l.words
 
 abbrev pub decreases-loop-i : goal.decreases-loop-i
-decreases-loop-i l = length l.name - i
+decreases-loop-i g l = length l.words - l.i
