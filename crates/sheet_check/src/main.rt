@@ -4,10 +4,11 @@
 
 #![tactic(auto)]
 
-ghost use Rattle.std.specs.Prelude.{◌≤◌, ◌<◌, length};
+ghost use Rattle.std.specs.Prelude.{◌≤◌, ◌<◌, length, IfOk};
 
 use rules::Refusal;
 use sheet::Read;
+use std::io;
 
 // FNV-1a over the first n words.
 fn mixed(rows: &[u64], n: usize) -> u64 {
@@ -33,65 +34,72 @@ fn number_of(refusal: Refusal) -> u64 {
 }
 
 // A space and a number.
-fn show(n: u64) {
-    io::write_all(1, b" ");
-    io::print_decimal(1, n);
+fn show(rt: &impl Print, n: u64) -> io::Result<()> {
+    rt.write_all(b" ")?;
+    rt.print(n)
 }
 
 // Reads a sheet, and writes what it gives.
-fn answer(text: &[u8], rows: &mut [u64; 6560]) {
+fn answer(rt: &impl Print, text: &[u8], rows: &mut [u64; 6560]) -> io::Result<()> {
     match sheet::read_sheet(text, rows) {
         Read::Net {
             transitions,
             places,
             rows: n,
         } => {
-            io::write_all(1, b"net");
-            show(transitions);
-            show(places);
-            show(n as u64);
-            io::write_all(1, b" ");
-            io::print_hex(1, mixed(rows, n), 16);
+            rt.write_all(b"net")?;
+            show(rt, transitions)?;
+            show(rt, places)?;
+            show(rt, n as u64)?;
+            let h = mixed(rows, n);
+            print!(rt; " {h:016x}")?;
         }
         Read::Refused { refusal, line } => {
-            io::write_all(1, b"refused");
-            show(number_of(refusal));
-            show(line);
+            rt.write_all(b"refused")?;
+            show(rt, number_of(refusal))?;
+            show(rt, line)?;
         }
     }
-    io::write_all(1, b"\n");
+    rt.write_all(b"\n")
 }
 
 // A line of the list: a case, or a part of a sheet of n bytes; how many bytes the sheet has then.
-fn step(sheet: &mut [u8], n: usize, line: &[u8], rows: &mut [u64; 6560]) -> usize
+fn step(
+    rt: &impl Print,
+    sheet: &mut [u8],
+    n: usize,
+    line: &[u8],
+    rows: &mut [u64; 6560],
+) -> io::Result<usize>
     requires { n ≤ length sheet.old }
-    ensures { result ≤ length sheet.old }
+    ensures { IfOk result (λ to. to ≤ length sheet.old) }
 {
     if line.len() == 0 {
-        return n;
+        return Ok(n);
     }
     if line[0] == b'c' {
-        answer(&sheet[..n], rows);
-        return n;
+        answer(rt, &sheet[..n], rows)?;
+        return Ok(n);
     }
-    lists::build(sheet, n, line)
+    Ok(lists::build(sheet, n, line))
 }
 
 // Goes through the list, line by line.
-fn run(list: &[u8], sheet: &mut [u8], rows: &mut [u64; 6560]) {
+fn run(rt: &impl Print, list: &[u8], sheet: &mut [u8], rows: &mut [u64; 6560]) -> io::Result<()> {
     let mut n = 0;
     let mut at = 0;
     while at < list.len() {
         let end = lists::line_end(list, at);
-        n = step(sheet, n, &list[at..end], rows);
+        n = step(rt, sheet, n, &list[at..end], rows)?;
         at = end + 1;
     }
+    Ok(())
 }
 
-fn main() {
+fn main(rt: HostRuntime) -> io::Result<()> {
     let mut list = [0u8; 262144];
     let mut sheet = [0u8; 70000];
     let mut rows = [0u64; 6560];
-    let n = io::read_full(0, &mut list);
-    run(&list[..n], &mut sheet, &mut rows);
+    let n = streams::read_full(&mut rt.stdin(), &mut list)?;
+    run(&rt, &list[..n], &mut sheet, &mut rows)
 }
