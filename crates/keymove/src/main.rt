@@ -6,11 +6,13 @@
 ghost use Rattle.std.specs.Prelude.{◌≡◌, ◌≤◌, length, replicate, take};
 ghost use Rattle.rules.specs.Keymove.{keymove};
 
+use std::io;
+
 // Writes the first n bytes of a text.
-fn write(text: &[u8], n: usize)
+fn write(rt: &impl Print, text: &[u8], n: usize) -> io::Result<()>
     requires { n ≤ length text.now }
 {
-    io::write_all(1, &text[..n]);
+    rt.write_all(&text[..n])
 }
 
 // Makes the two lines of a sheet's answer at the start of out, in the memory that is lent: how many bytes they have.
@@ -24,18 +26,24 @@ fn lines(sheet: &[u8], words: &mut [u64], tags: &mut [u8], out: &mut [u8]) -> us
 }
 
 // Writes them.
-fn run(sheet: &[u8], words: &mut [u64; 7168], tags: &mut [u8; 1024], out: &mut [u8; 128])
+fn run(
+    rt: &impl Print,
+    sheet: &[u8],
+    words: &mut [u64; 7168],
+    tags: &mut [u8; 1024],
+    out: &mut [u8; 128],
+) -> io::Result<()>
     requires { (words.old ≡ replicate 7168 0) × (tags.old ≡ replicate 1024 0) }
 {
     let n = lines(sheet, words, tags, out);
-    write(out, n);
+    write(rt, out, n)
 }
 
-fn main() {
+fn main(rt: HostRuntime) -> io::Result<()> {
     let mut sheet = [0u8; 65537];
     let mut words = [0u64; 7168];
     let mut tags = [0u8; 1024];
     let mut out = [0u8; 128];
-    let n = io::read_full(0, &mut sheet);
-    run(&sheet[..n], &mut words, &mut tags, &mut out);
+    let n = streams::read_full(&mut rt.stdin(), &mut sheet)?;
+    run(&rt, &sheet[..n], &mut words, &mut tags, &mut out)
 }

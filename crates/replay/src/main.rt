@@ -3,7 +3,10 @@
 
 #![tactic(auto)]
 
-ghost use Rattle.std.specs.Prelude.{◌≡◌, ◌+◌, ◌*◌, ◌<◌, ◌≤◌, length};
+ghost use Rattle.std.specs.Prelude.{◌≡◌, ◌+◌, ◌*◌, ◌<◌, ◌≤◌, length, IfOk};
+
+use std::io;
+use std::io::Read;
 
 // A number of a line, and where the next field begins.
 #[derive(Clone, Copy)]
@@ -426,22 +429,24 @@ fn moved(buf: &mut [u8], from: usize, n: usize) -> usize
 }
 
 // Reads behind the first `left` bytes; how many there are then.
-fn more(buf: &mut [u8], left: usize) -> usize
+fn more<R: Read>(reader: &mut R, buf: &mut [u8], left: usize) -> io::Result<usize>
     requires { left ≤ length buf.old }
-    ensures { (left ≤ result) × (result ≤ length buf.old) }
+    ensures { IfOk result (λ n. (left ≤ n) × (n ≤ length buf.old)) }
 {
-    left + io::read_full(0, &mut buf[left..])
+    let n = streams::read_full(reader, &mut buf[left..])?;
+    Ok(left + n)
 }
 
 // Reads the list part by part, and goes through the lines that are ended. No list takes 64 turns.
-fn all(
+fn all<R: Read>(
+    reader: &mut R,
     buf: &mut [u8],
     sheet: &mut [u8],
     chain: &mut [u8],
     words: &mut [u64],
     tags: &mut [u8],
     out: &mut [u8; 128],
-) -> State {
+) -> io::Result<State> {
     let mut st = State {
         n: 0,
         sheets: 0,
@@ -453,13 +458,13 @@ fn all(
     let mut left = 0;
     let mut turns: usize = 0;
     while turns < 64 {
-        let n = more(buf, left);
+        let n = more(reader, buf, left)?;
         let u = ended_of(buf, n);
         st = run_part(st, buf, u, sheet, chain, words, tags, out);
         left = moved(buf, u, n);
         turns += 1;
     }
-    st
+    Ok(st)
 }
 
 fn ended_of(buf: &[u8], n: usize) -> usize
@@ -486,30 +491,37 @@ fn run_part(
     run(st, &buf[..n], sheet, chain, words, tags, out)
 }
 
-fn print(n: u64, text: &[u8]) {
-    io::print_decimal(1, n);
-    io::write_all(1, text);
+fn print(rt: &impl Print, n: u64, text: &[u8]) -> io::Result<()> {
+    rt.print(n)?;
+    rt.write_all(text)
 }
 
-fn show(st: State) {
-    print(st.sheets, b" sheets, ");
-    print(st.cases, b" cases, ");
-    print(st.held, b" as the list says, list ");
+fn show(rt: &impl Print, st: State) -> io::Result<()> {
+    print(rt, st.sheets, b" sheets, ")?;
+    print(rt, st.cases, b" cases, ")?;
+    print(rt, st.held, b" as the list says, list ")?;
     if st.whole {
-        io::write_all(1, b"whole\n");
+        rt.write_all(b"whole\n")
     } else {
-        io::write_all(1, b"damaged\n");
+        rt.write_all(b"damaged\n")
     }
 }
 
-fn main() {
+fn main(rt: HostRuntime) -> io::Result<()> {
     let mut list = [0u8; 65536];
     let mut sheet = [0u8; 70000];
     let mut chain = [0u8; 128];
     let mut words = [0u64; 7200];
     let mut tags = [0u8; 1100];
     let mut out = [0u8; 128];
-    show(all(
-        &mut list, &mut sheet, &mut chain, &mut words, &mut tags, &mut out,
-    ));
+    let st = all(
+        &mut rt.stdin(),
+        &mut list,
+        &mut sheet,
+        &mut chain,
+        &mut words,
+        &mut tags,
+        &mut out,
+    )?;
+    show(&rt, st)
 }

@@ -5,13 +5,14 @@
 
 #![tactic(auto)]
 
-ghost use Rattle.std.specs.Prelude.{◌≡◌, ◌≤◌, ◌<◌, length};
+ghost use Rattle.std.specs.Prelude.{◌≡◌, ◌≤◌, ◌<◌, length, IfOk};
 ghost use Rattle.sheet.specs.Packed.{net_in};
 ghost use Rattle.bits.specs.Compiled.{net_words};
 ghost use Rattle.indexed.specs.Limited.{Limited};
 
 use bits::{Bitset, Played, Position, Turn};
 use sheet::Read;
+use std::io;
 
 // Where a walk stands.
 #[derive(Clone, Copy)]
@@ -206,19 +207,20 @@ fn walk(
     follow(c, transitions, bits::fresh(c, start(rows, n)), moves)
 }
 
-fn show(n: u64) {
-    io::print_decimal(1, n);
-    io::write_all(1, b" ");
+fn show(rt: &impl Print, n: u64) -> io::Result<()> {
+    rt.print(n)?;
+    rt.write_all(b" ")
 }
 
 // Reads a sheet, walks its net, and writes the line.
 fn answer(
+    rt: &impl Print,
     text: &[u8],
     rows: &mut [u64; 6560],
     moves: &[u8],
     c: &mut [u64; bits::NET_WORDS],
     cells: &mut [u64; 65536],
-) {
+) -> io::Result<()> {
     match sheet::read_sheet(text, rows) {
         Read::Net {
             transitions,
@@ -226,62 +228,65 @@ fn answer(
             rows: n,
         } => {
             let h = walk(rows, n, transitions, places, moves, c, cells);
-            show(transitions);
-            show(places);
-            io::print_hex(1, h, 16);
+            show(rt, transitions)?;
+            show(rt, places)?;
+            print!(rt; "{h:016x}")?;
         }
         Read::Refused { refusal, line } => {
-            io::write_all(1, b"refused");
+            rt.write_all(b"refused")?;
         }
     }
-    io::write_all(1, b"\n");
+    rt.write_all(b"\n")
 }
 
 // A line of the list: a walk, or a part of a sheet of n bytes; how many bytes the sheet has then.
 fn line(
+    rt: &impl Print,
     sheet: &mut [u8],
     n: usize,
     line: &[u8],
     rows: &mut [u64; 6560],
     c: &mut [u64; bits::NET_WORDS],
     cells: &mut [u64; 65536],
-) -> usize
+) -> io::Result<usize>
     requires { n ≤ length sheet.old }
-    ensures { result ≤ length sheet.old }
+    ensures { IfOk result (λ to. to ≤ length sheet.old) }
 {
     if line.len() == 0 {
-        return n;
+        return Ok(n);
     }
     if line[0] == b'w' {
-        answer(&sheet[..n], rows, &line[1..], c, cells);
-        return n;
+        answer(rt, &sheet[..n], rows, &line[1..], c, cells)?;
+        return Ok(n);
     }
-    lists::build(sheet, n, line)
+    Ok(lists::build(sheet, n, line))
 }
 
 // Goes through the list, line by line.
 fn run(
+    rt: &impl Print,
     list: &[u8],
     sheet: &mut [u8],
     rows: &mut [u64; 6560],
     c: &mut [u64; bits::NET_WORDS],
     cells: &mut [u64; 65536],
-) {
+) -> io::Result<()> {
     let mut n = 0;
     let mut at = 0;
     while at < list.len() {
         let end = lists::line_end(list, at);
-        n = line(sheet, n, &list[at..end], rows, c, cells);
+        n = line(rt, sheet, n, &list[at..end], rows, c, cells)?;
         at = end + 1;
     }
+    Ok(())
 }
 
-fn main() {
+fn main(rt: HostRuntime) -> io::Result<()> {
     let mut list = [0u8; 524288];
     let mut sheet = [0u8; 70000];
     let mut rows = [0u64; 6560];
     let mut c = [0u64; bits::NET_WORDS];
     let mut cells = [0u64; 65536];
-    let n = io::read_full(0, &mut list);
-    run(&list[..n], &mut sheet, &mut rows, &mut c, &mut cells);
+    let n = streams::read_full(&mut rt.stdin(), &mut list)?;
+    run(&rt, &list[..n], &mut sheet, &mut rows, &mut c, &mut cells)
 }
