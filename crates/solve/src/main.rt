@@ -6,6 +6,8 @@
 ghost use Rattle.std.specs.Prelude.{◌<◌, ◌≤◌, length};
 
 use rules::{Answer, Refusal};
+use std::env::{Env, FillError};
+use std::io;
 
 // A setting: its number, at most 2^64 - 1, or that it is none.
 #[derive(Clone, Copy)]
@@ -71,10 +73,25 @@ fn number(text: &[u8]) -> Given {
     digits(text)
 }
 
+// Puts argument i at the start of buf: how many bytes it has, 0 where it is missing or longer than buf.
+fn argument(rt: &impl Env, i: usize, buf: &mut [u8]) -> usize
+    ensures { result ≤ length buf.new }
+{
+    match rt.arg(i, buf) {
+        Ok(n) => n,
+        Err(_) => 0,
+    }
+}
+
+// Whether argument i is given.
+fn has_argument(rt: &impl Env, i: usize) -> bool {
+    !matches!(rt.arg(i, &mut []), Err(FillError::NotPresent))
+}
+
 // Argument i as a number.
-fn setting(i: usize) -> Given {
-    let mut buf = io::buffer();
-    let n = os::arg(i, &mut buf);
+fn setting(rt: &impl Env, i: usize) -> Given {
+    let mut buf = [0u8; 4096];
+    let n = argument(rt, i, &mut buf);
     number(&buf[..n])
 }
 
@@ -98,8 +115,8 @@ fn pieces(text: &mut [u8], n: usize) -> Given
 }
 
 // Argument 5: its pieces stand in buf then.
-fn chain(buf: &mut [u8]) -> Given {
-    let n = os::arg(5, buf);
+fn chain(rt: &impl Env, buf: &mut [u8]) -> Given {
+    let n = argument(rt, 5, buf);
     if n == 0 {
         return Given::Malformed;
     }
@@ -114,68 +131,74 @@ fn chain(buf: &mut [u8]) -> Given {
     pieces(buf, n)
 }
 
-fn say(text: &[u8]) {
-    io::write_all(2, text);
+fn say(rt: &impl Eprint, text: &str) -> io::Result<()> {
+    rt.eprint(text)
 }
 
-fn usage() {
-    say(b"solve BUDGET ENTRIES DRIVER FILTERS CHAIN < SHEET\n");
+fn usage(rt: &impl Eprint) -> io::Result<()> {
+    say(rt, "solve BUDGET ENTRIES DRIVER FILTERS CHAIN < SHEET\n")
 }
 
-fn explain_sheet(line: u64) {
+fn explain_sheet(rt: &impl Eprint, line: u64) -> io::Result<()> {
     if line == 0 {
-        say(b"the sheet has more than 65,536 bytes");
+        say(rt, "the sheet has more than 65,536 bytes")
     } else {
-        say(b"a line of the sheet is malformed");
+        say(rt, "a line of the sheet is malformed")
     }
 }
 
-fn explain(refusal: Refusal, line: u64) {
+fn explain(rt: &impl Eprint, refusal: Refusal, line: u64) -> io::Result<()> {
     match refusal {
-        Refusal::Sheet => explain_sheet(line),
-        Refusal::Range => say(b"a number, an index or a count of rows is beyond a limit"),
-        Refusal::Roll => say(
-            b"a place is marked or a transition given its role twice, or it has none",
+        Refusal::Sheet => explain_sheet(rt, line),
+        Refusal::Range => say(
+            rt,
+            "a number, an index or a count of rows is beyond a limit",
         ),
-        Refusal::Settings => say(b"a setting is outside its range"),
-        Refusal::NoGoals => say(b"the chain reads goals and the net has none"),
-        Refusal::Memory => say(b"the memory that was lent is too small"),
-        Refusal::Unsettled => say(b"an automatic transition is enabled at the start"),
-        Refusal::Mixed => say(b"moves of two sides, or of side 0, in one position"),
-        Refusal::Spilled => say(b"a firing would leave 0/1"),
-        Refusal::Endless => say(b"10,000 automatic firings after one move"),
-        Refusal::Wide => say(b"more than 64 moves in one position"),
-        Refusal::Deep => say(b"a node 65 moves below its run's root"),
+        Refusal::Roll => say(
+            rt,
+            "a place is marked or a transition given its role twice, or it has none",
+        ),
+        Refusal::Settings => say(rt, "a setting is outside its range"),
+        Refusal::NoGoals => say(rt, "the chain reads goals and the net has none"),
+        Refusal::Memory => say(rt, "the memory that was lent is too small"),
+        Refusal::Unsettled => say(rt, "an automatic transition is enabled at the start"),
+        Refusal::Mixed => say(rt, "moves of two sides, or of side 0, in one position"),
+        Refusal::Spilled => say(rt, "a firing would leave 0/1"),
+        Refusal::Endless => say(rt, "10,000 automatic firings after one move"),
+        Refusal::Wide => say(rt, "more than 64 moves in one position"),
+        Refusal::Deep => say(rt, "a node 65 moves below its run's root"),
     }
 }
 
 // A refusal in words.
-fn told(answer: Answer) {
+fn told(rt: &impl Eprint, answer: Answer) -> io::Result<()> {
     if let Answer::Refused {
         refusal,
         line,
         nodes,
     } = answer
     {
-        say(b"refused: ");
-        explain(refusal, line);
+        say(rt, "refused: ")?;
+        explain(rt, refusal, line)?;
         if 0 < line {
-            say(b", line ");
-            io::print_decimal(2, line);
+            say(rt, ", line ")?;
+            rt.eprint(line)?;
         }
-        say(b"\n");
+        return say(rt, "\n");
     }
+    Ok(())
 }
 
 // Writes the first n bytes of a text.
-fn write(text: &[u8], n: usize)
+fn write(rt: &impl Print, text: &[u8], n: usize) -> io::Result<()>
     requires { n ≤ length text.now }
 {
-    io::write_all(1, &text[..n]);
+    rt.write_all(&text[..n])
 }
 
 // The call with the first k pieces of a chain, on the memory that is lent, and what is written of it.
 fn run(
+    rt: &(impl Print + Eprint),
     budget: u64,
     entries: u64,
     driver: u64,
@@ -186,9 +209,9 @@ fn run(
     words: &mut [u64; 7168],
     tags: &mut [u8; 1024],
     out: &mut [u8; 128],
-) {
+) -> io::Result<()> {
     if (chain.len() as u64) < k {
-        return;
+        return Ok(());
     }
     let n = k as usize;
     let a = game::choose(
@@ -202,53 +225,48 @@ fn run(
         tags,
     );
     let m = report::write_report(a, out);
-    write(out, m);
-    told(a);
+    write(rt, out, m)?;
+    told(rt, a)
 }
 
 // Reads the settings; the pieces of the chain stand in buf.
 fn with_settings(
+    rt: &(impl Env + Print + Eprint),
     buf: &mut [u8],
     sheet: &[u8],
     words: &mut [u64; 7168],
     tags: &mut [u8; 1024],
     out: &mut [u8; 128],
-) {
-    let Given::Is(budget) = setting(1) else {
-        usage();
-        return;
+) -> io::Result<()> {
+    let Given::Is(budget) = setting(rt, 1) else {
+        return usage(rt);
     };
-    let Given::Is(entries) = setting(2) else {
-        usage();
-        return;
+    let Given::Is(entries) = setting(rt, 2) else {
+        return usage(rt);
     };
-    let Given::Is(driver) = setting(3) else {
-        usage();
-        return;
+    let Given::Is(driver) = setting(rt, 3) else {
+        return usage(rt);
     };
-    let Given::Is(filters) = setting(4) else {
-        usage();
-        return;
+    let Given::Is(filters) = setting(rt, 4) else {
+        return usage(rt);
     };
-    let Given::Is(k) = chain(buf) else {
-        usage();
-        return;
+    let Given::Is(k) = chain(rt, buf) else {
+        return usage(rt);
     };
     run(
-        budget, entries, driver, filters, buf, k, sheet, words, tags, out,
-    );
+        rt, budget, entries, driver, filters, buf, k, sheet, words, tags, out,
+    )
 }
 
-fn main() {
+fn main(rt: HostRuntime) -> io::Result<()> {
     let mut sheet = [0u8; 65537];
     let mut buf = [0u8; 4096];
     let mut words = [0u64; 7168];
     let mut tags = [0u8; 1024];
     let mut out = [0u8; 128];
-    if os::arg_count() != 6 {
-        usage();
-        return;
+    if !has_argument(&rt, 5) || has_argument(&rt, 6) {
+        return usage(&rt);
     }
-    let n = io::read_full(0, &mut sheet);
-    with_settings(&mut buf, &sheet[..n], &mut words, &mut tags, &mut out);
+    let n = streams::read_full(&mut rt.stdin(), &mut sheet)?;
+    with_settings(&rt, &mut buf, &sheet[..n], &mut words, &mut tags, &mut out)
 }
