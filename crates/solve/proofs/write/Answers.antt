@@ -1,0 +1,6 @@
+-- `solve::write` is safe: so many bytes are there. Assumes nothing.
+use Rattle.std.proofs.Common.{sym, arith, length-take-le, rules}
+use Rattle.solve.proofs.write.Goals as goal
+
+pub slice_bounds-write_all-end : goal.slice_bounds-write_all-end
+slice_bounds-write_all-end g c = sym (length-take-le _ _ (omega arith))
