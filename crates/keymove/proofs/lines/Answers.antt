@@ -5,7 +5,6 @@ use Prim.Native.Nat.{ℕ}
 use Rattle.rules.specs.declared.Answer.{Answer}
 use Rattle.rules.specs.Answer.{report}
 use Rattle.rules.specs.Call.{Result, call, asked}
-use borrow.Author.Rules.{rules}
 use Rattle.keymove.proofs.lines.Goals as goal
 
 pub returns : goal.returns

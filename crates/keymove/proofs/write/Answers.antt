@@ -1,7 +1,6 @@
 -- `keymove::write` is safe: so many bytes are there. Assumes nothing.
 use mathlib.Core.Path.{sym}
 use lib.Seq.{length-take-le}
-use borrow.Author.Rules.{rules}
 use Rattle.keymove.proofs.write.Goals as goal
 
 pub slice_bounds-write_all-end : goal.slice_bounds-write_all-end

@@ -2,7 +2,6 @@
 use mathlib.Core.Path.{sym}
 use native.Mathlib.Omega.{arith}
 use lib.Seq.{length-take-le}
-use borrow.Author.Rules.{rules}
 use Rattle.memo_check.proofs.print_front.Goals as goal
 
 pub slice_bounds-print_words-end : goal.slice_bounds-print_words-end

@@ -2,7 +2,6 @@
 use mathlib.Core.Path.{sym}
 use native.Mathlib.Omega.{arith}
 use lib.Seq.{length-take-le}
-use borrow.Author.Rules.{rules}
 use Rattle.memo_check.proofs.run.Goals as goal
 
 pub slice_bounds-hashed_words-end-2 : goal.slice_bounds-hashed_words-end-2

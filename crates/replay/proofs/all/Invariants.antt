@@ -1,5 +1,5 @@
 -- `replay::all` is safe and ends. Assumes nothing.
-use Rattle.std.proofs.Common.{◌≡◌, ◌-◌, ◌≤◌, length, rules}
+use Rattle.std.proofs.Common.{◌≡◌, ◌-◌, ◌≤◌, length}
 use Rattle.replay.proofs.all.Given as goal
 
 abbrev pub invariant-loop-turns : goal.invariant-loop-turns

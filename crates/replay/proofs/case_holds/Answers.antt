@@ -1,5 +1,5 @@
 -- `replay::case_holds` is safe: the memory has so many words and tags. Assumes nothing.
-use Rattle.std.proofs.Common.{sym, arith, length-take-le, rules}
+use Rattle.std.proofs.Common.{sym, arith, length-take-le}
 use Rattle.replay.proofs.case_holds.Goals as goal
 
 pub slice_bounds-called-end-2 : goal.slice_bounds-called-end-2

@@ -1,5 +1,5 @@
 -- `replay::ended` is safe and ends. Assumes nothing.
-use Rattle.std.proofs.Common.{◌≤◌, length, rules}
+use Rattle.std.proofs.Common.{◌≤◌, length}
 use Rattle.replay.proofs.ended.Given as goal
 
 abbrev pub invariant-loop-n : goal.invariant-loop-n

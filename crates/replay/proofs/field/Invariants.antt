@@ -1,5 +1,5 @@
 -- `replay::field` is safe and ends. Assumes nothing.
-use Rattle.std.proofs.Common.{◌≡◌, ◌-◌, ◌≤◌, length, rules}
+use Rattle.std.proofs.Common.{◌-◌, ◌≤◌, length}
 use Rattle.replay.proofs.field.Given as goal
 
 abbrev pub invariant-loop-i : goal.invariant-loop-i

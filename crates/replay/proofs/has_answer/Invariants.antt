@@ -1,5 +1,5 @@
 -- `replay::has_answer` is safe and ends. Assumes nothing.
-use Rattle.std.proofs.Common.{◌≡◌, ◌-◌, ◌≤◌, length, rules}
+use Rattle.std.proofs.Common.{◌-◌, ◌≤◌}
 use Rattle.replay.proofs.has_answer.Given as goal
 
 abbrev pub invariant-loop-i : goal.invariant-loop-i

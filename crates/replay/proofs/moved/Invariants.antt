@@ -1,5 +1,5 @@
 -- `replay::moved` is safe and ends. Assumes nothing.
-use Rattle.std.proofs.Common.{◌≡◌, ◌-◌, ◌≤◌, length, arith, length-set, rules}
+use Rattle.std.proofs.Common.{◌≡◌, ◌-◌, ◌≤◌, length}
 use Rattle.replay.proofs.moved.Given as goal
 
 abbrev pub invariant-loop-i : goal.invariant-loop-i

@@ -1,5 +1,5 @@
 -- `replay::run` is safe and ends. Assumes nothing.
-use Rattle.std.proofs.Common.{◌≡◌, ◌-◌, ◌≤◌, length, rules}
+use Rattle.std.proofs.Common.{◌≡◌, ◌-◌, ◌≤◌, length}
 use Rattle.replay.proofs.run.Given as goal
 
 abbrev pub invariant-loop-at : goal.invariant-loop-at

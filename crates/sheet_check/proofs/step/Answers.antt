@@ -2,7 +2,6 @@
 use mathlib.Core.Path.{sym}
 use native.Mathlib.Omega.{arith}
 use lib.Seq.{length-take-le}
-use borrow.Author.Rules.{rules}
 use Rattle.sheet_check.proofs.step.Goals as goal
 
 pub slice_bounds-answer-end-then-line-eq99 : goal.slice_bounds-answer-end-then-line-eq99

@@ -1,5 +1,5 @@
 -- `solve::digits` is safe and ends. Assumes nothing.
-use Rattle.std.proofs.Common.{◌-◌, ◌≤◌, length, rules}
+use Rattle.std.proofs.Common.{◌-◌, ◌≤◌, length}
 use Rattle.solve.proofs.digits.Given as goal
 
 abbrev pub invariant-loop-i : goal.invariant-loop-i

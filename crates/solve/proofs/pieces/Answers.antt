@@ -1,5 +1,5 @@
 -- `solve::pieces` is safe and ends. Assumes nothing.
-use Rattle.std.proofs.Common.{◌≡◌, ◌-◌, ◌≤◌, length, arith, length-set, rules}
+use Rattle.std.proofs.Common.{arith, length-set}
 use Rattle.solve.proofs.pieces.Goals as goal
 
 pub loop-i-preserved : goal.loop-i-preserved

@@ -1,5 +1,5 @@
 -- `solve::pieces` is safe and ends. Assumes nothing.
-use Rattle.std.proofs.Common.{◌≡◌, ◌-◌, ◌≤◌, length, arith, length-set, rules}
+use Rattle.std.proofs.Common.{◌≡◌, ◌-◌, ◌≤◌, length}
 use Rattle.solve.proofs.pieces.Given as goal
 
 abbrev pub invariant-loop-i : goal.invariant-loop-i

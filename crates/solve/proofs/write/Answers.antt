@@ -1,5 +1,5 @@
 -- `solve::write` is safe: so many bytes are there. Assumes nothing.
-use Rattle.std.proofs.Common.{sym, arith, length-take-le, rules}
+use Rattle.std.proofs.Common.{sym, arith, length-take-le}
 use Rattle.solve.proofs.write.Goals as goal
 
 pub slice_bounds-write_all-end : goal.slice_bounds-write_all-end
