@@ -131,60 +131,60 @@ fn chain(rt: &impl Env, buf: &mut [u8]) -> Given {
     pieces(buf, n)
 }
 
-fn say(rt: &impl Eprint, text: &str) -> io::Result<()> {
-    rt.eprint(text)
+fn say(err: &impl Print, text: &[u8]) -> io::Result<()> {
+    err.write_all(text)
 }
 
-fn usage(rt: &impl Eprint) -> io::Result<()> {
-    say(rt, "solve BUDGET ENTRIES DRIVER FILTERS CHAIN < SHEET\n")
+fn usage(err: &impl Print) -> io::Result<()> {
+    say(err, b"solve BUDGET ENTRIES DRIVER FILTERS CHAIN < SHEET\n")
 }
 
-fn explain_sheet(rt: &impl Eprint, line: u64) -> io::Result<()> {
+fn explain_sheet(err: &impl Print, line: u64) -> io::Result<()> {
     if line == 0 {
-        say(rt, "the sheet has more than 65,536 bytes")
+        say(err, b"the sheet has more than 65,536 bytes")
     } else {
-        say(rt, "a line of the sheet is malformed")
+        say(err, b"a line of the sheet is malformed")
     }
 }
 
-fn explain(rt: &impl Eprint, refusal: Refusal, line: u64) -> io::Result<()> {
+fn explain(err: &impl Print, refusal: Refusal, line: u64) -> io::Result<()> {
     match refusal {
-        Refusal::Sheet => explain_sheet(rt, line),
+        Refusal::Sheet => explain_sheet(err, line),
         Refusal::Range => say(
-            rt,
-            "a number, an index or a count of rows is beyond a limit",
+            err,
+            b"a number, an index or a count of rows is beyond a limit",
         ),
         Refusal::Roll => say(
-            rt,
-            "a place is marked or a transition given its role twice, or it has none",
+            err,
+            b"a place is marked or a transition given its role twice, or it has none",
         ),
-        Refusal::Settings => say(rt, "a setting is outside its range"),
-        Refusal::NoGoals => say(rt, "the chain reads goals and the net has none"),
-        Refusal::Memory => say(rt, "the memory that was lent is too small"),
-        Refusal::Unsettled => say(rt, "an automatic transition is enabled at the start"),
-        Refusal::Mixed => say(rt, "moves of two sides, or of side 0, in one position"),
-        Refusal::Spilled => say(rt, "a firing would leave 0/1"),
-        Refusal::Endless => say(rt, "10,000 automatic firings after one move"),
-        Refusal::Wide => say(rt, "more than 64 moves in one position"),
-        Refusal::Deep => say(rt, "a node 65 moves below its run's root"),
+        Refusal::Settings => say(err, b"a setting is outside its range"),
+        Refusal::NoGoals => say(err, b"the chain reads goals and the net has none"),
+        Refusal::Memory => say(err, b"the memory that was lent is too small"),
+        Refusal::Unsettled => say(err, b"an automatic transition is enabled at the start"),
+        Refusal::Mixed => say(err, b"moves of two sides, or of side 0, in one position"),
+        Refusal::Spilled => say(err, b"a firing would leave 0/1"),
+        Refusal::Endless => say(err, b"10,000 automatic firings after one move"),
+        Refusal::Wide => say(err, b"more than 64 moves in one position"),
+        Refusal::Deep => say(err, b"a node 65 moves below its run's root"),
     }
 }
 
 // A refusal in words.
-fn told(rt: &impl Eprint, answer: Answer) -> io::Result<()> {
+fn told(err: &impl Print, answer: Answer) -> io::Result<()> {
     if let Answer::Refused {
         refusal,
         line,
         nodes,
     } = answer
     {
-        say(rt, "refused: ")?;
-        explain(rt, refusal, line)?;
+        say(err, b"refused: ")?;
+        explain(err, refusal, line)?;
         if 0 < line {
-            say(rt, ", line ")?;
-            rt.eprint(line)?;
+            say(err, b", line ")?;
+            err.print(line)?;
         }
-        return say(rt, "\n");
+        return say(err, b"\n");
     }
     Ok(())
 }
@@ -198,7 +198,8 @@ fn write(rt: &impl Print, text: &[u8], n: usize) -> io::Result<()>
 
 // The call with the first k pieces of a chain, on the memory that is lent, and what is written of it.
 fn run(
-    rt: &(impl Print + Eprint),
+    rt: &impl Print,
+    err: &impl Print,
     budget: u64,
     entries: u64,
     driver: u64,
@@ -226,12 +227,13 @@ fn run(
     );
     let m = report::write_report(a, out);
     write(rt, out, m)?;
-    told(rt, a)
+    told(err, a)
 }
 
 // Reads the settings; the pieces of the chain stand in buf.
 fn with_settings(
-    rt: &(impl Env + Print + Eprint),
+    rt: &(impl Env + Print),
+    err: &impl Print,
     buf: &mut [u8],
     sheet: &[u8],
     words: &mut [u64; 7168],
@@ -239,22 +241,22 @@ fn with_settings(
     out: &mut [u8; 128],
 ) -> io::Result<()> {
     let Given::Is(budget) = setting(rt, 1) else {
-        return usage(rt);
+        return usage(err);
     };
     let Given::Is(entries) = setting(rt, 2) else {
-        return usage(rt);
+        return usage(err);
     };
     let Given::Is(driver) = setting(rt, 3) else {
-        return usage(rt);
+        return usage(err);
     };
     let Given::Is(filters) = setting(rt, 4) else {
-        return usage(rt);
+        return usage(err);
     };
     let Given::Is(k) = chain(rt, buf) else {
-        return usage(rt);
+        return usage(err);
     };
     run(
-        rt, budget, entries, driver, filters, buf, k, sheet, words, tags, out,
+        rt, err, budget, entries, driver, filters, buf, k, sheet, words, tags, out,
     )
 }
 
@@ -265,8 +267,16 @@ fn main(rt: HostRuntime) -> io::Result<()> {
     let mut tags = [0u8; 1024];
     let mut out = [0u8; 128];
     if !has_argument(&rt, 5) || has_argument(&rt, 6) {
-        return usage(&rt);
+        return usage(&rt.stderr());
     }
     let n = streams::read_full(&mut rt.stdin(), &mut sheet)?;
-    with_settings(&rt, &mut buf, &sheet[..n], &mut words, &mut tags, &mut out)
+    with_settings(
+        &rt,
+        &rt.stderr(),
+        &mut buf,
+        &sheet[..n],
+        &mut words,
+        &mut tags,
+        &mut out,
+    )
 }
