@@ -1,4 +1,4 @@
-//! Links the crate keymove_c, which `rt staticlib` proved and built. With feature `plain` there is
+//! Links the crate keymove_c, which `rt lib` proved and built. With feature `plain` there is
 //! no proof and no archive: the crates' sources without their clauses become one Rust module, which
 //! rustc compiles with its checks of overflows and bounds.
 
@@ -12,7 +12,7 @@ fn main() {
         std::fs::write(to, plain(&root)).unwrap();
         return;
     }
-    let folder = root.join("target/staticlib");
+    let folder = root.join("crates/keymove_c/out");
     println!("cargo:rustc-link-search=native={}", folder.display());
     println!("cargo:rustc-link-lib=static=keymove_c");
     println!("cargo:rerun-if-changed={}", folder.join("libkeymove_c.a").display());
@@ -26,7 +26,8 @@ fn read(path: PathBuf) -> String {
 /// keymove_c and all crates below it, a module each.
 fn plain(root: &Path) -> String {
     let list = read(root.join("crates.txt"));
-    let below = list.lines().find_map(|l| l.strip_prefix("keymove_c:")).expect("keymove_c in crates.txt");
+    let of = |line: &str| line.split(':').next().and_then(|l| l.split_whitespace().next()) == Some("keymove_c");
+    let (_, below) = list.lines().find(|l| of(l)).and_then(|l| l.split_once(':')).expect("keymove_c in crates.txt");
     let names: Vec<&str> = below.split_whitespace().chain(["keymove_c"]).collect();
     let module = |name: &&str| {
         let text = read(root.join("crates").join(name).join("src/lib.rt"));
@@ -35,8 +36,8 @@ fn plain(root: &Path) -> String {
     names.iter().map(module).collect()
 }
 
-/// A crate's text as Rust: no `ghost use`, `requires` or `ensures`; all values can be copied, as
-/// they can in Rattle; the crates are modules beside each other.
+/// A crate's text as Rust: no `ghost use`, `requires` or `ensures`, and no attribute that is the
+/// prover's; the crates are modules beside each other.
 fn rust(text: &str, names: &[&str]) -> String {
     let mut out = String::new();
     let mut lines = text.lines();
@@ -52,11 +53,7 @@ fn rust(text: &str, names: &[&str]) -> String {
             while open != 0 {
                 open += depth(lines.next().expect("the end of a clause"));
             }
-        } else {
-            let item = words.strip_prefix("pub ").unwrap_or(words);
-            if item.starts_with("struct ") || item.starts_with("enum ") {
-                out += "#[derive(Clone, Copy)]\n";
-            }
+        } else if !words.starts_with("#![tactic(") && !words.starts_with("#[tactic(") && !words.starts_with("#[cycle(") {
             out += &paths(line, names).replace("std::num::truncating_f64_to_i64", "crate::call::whole_part");
             out += "\n";
         }

@@ -1,8 +1,9 @@
-//! Links the crate walk_bench, which `run` has rt staticlib prove and build in a scratch repository.
+//! Links the crate walk_bench, which `run` has rt lib prove and build in a scratch repository. WALK_BENCH names the folder of its archive.
 
 fn main() {
-    let root = std::path::Path::new(env!("CARGO_MANIFEST_DIR")).join("../../target/scratch/walk_bench/target/staticlib");
-    println!("cargo:rustc-link-search=native={}", root.display());
+    let folder = std::env::var("WALK_BENCH").expect("WALK_BENCH");
+    println!("cargo:rustc-link-search=native={folder}");
     println!("cargo:rustc-link-lib=static=walk_bench");
-    println!("cargo:rerun-if-changed={}", root.join("libwalk_bench.a").display());
+    println!("cargo:rerun-if-changed={folder}/libwalk_bench.a");
+    println!("cargo:rerun-if-env-changed=WALK_BENCH");
 }
