@@ -1,10 +1,7 @@
--- `lists::hashed_words` meets its contract. Assumes nothing.
-use Prim.Native.Nat.{◌≤◌, ◌-◌}
-use lib.ListN.{length}
+-- The hash of what is left, from the hash so far, is that of the whole. Assumes nothing.
+use Rattle.std.proofs.Common.{◌≡◌, drop}
+use Rattle.lists.specs.Hash.{fnv_words}
 use Rattle.lists.proofs.hashed_words.Given as goal
 
-abbrev pub invariant-loop-i : goal.invariant-loop-i
-invariant-loop-i l = l.i ≤ length l.words
-
-abbrev pub decreases-loop-i : goal.decreases-loop-i
-decreases-loop-i l = length l.words - l.i
+abbrev pub invariant-loop-w : goal.invariant-loop-w
+invariant-loop-w l = fnv_words l.h (drop l.w-index l.words) ≡ fnv_words l.initial.hash l.words

@@ -1,0 +1,9 @@
+ghost use Rattle.std.specs.Prelude.{◌≤◌, length};
+
+// A sheet as far as the lines of a list have built it, in bytes that are lent. What goes beyond them is dropped.
+#[derive(Drop)]
+pub struct Sheet<'a> {
+    pub(crate) bytes: &'a mut [u8],
+    pub(crate) len: usize,
+    ghost fits: { len ≤ length bytes.now },
+}
