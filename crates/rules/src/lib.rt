@@ -2,6 +2,9 @@
 
 #![tactic(auto)]
 
+ghost use Rattle.std.specs.Prelude.{◌≡◌};
+ghost use Rattle.rules.specs.Answer.{refusal_number};
+
 // Why a call is refused: 1 to 7 from the input, 8 to 12 from the state of a search.
 #[derive(Clone, Copy)]
 pub enum Refusal {
@@ -17,6 +20,27 @@ pub enum Refusal {
     Endless,
     Wide,
     Deep,
+}
+
+impl From<Refusal> for u64 {
+    ghost from_gives = { λ refusal number. number ≡ refusal_number refusal };
+
+    fn from(refusal: Refusal) -> u64 {
+        match refusal {
+            Refusal::Sheet => 1,
+            Refusal::Range => 2,
+            Refusal::Roll => 3,
+            Refusal::Settings => 4,
+            Refusal::NoGoals => 5,
+            Refusal::Memory => 6,
+            Refusal::Unsettled => 7,
+            Refusal::Mixed => 8,
+            Refusal::Spilled => 9,
+            Refusal::Endless => 10,
+            Refusal::Wide => 11,
+            Refusal::Deep => 12,
+        }
+    }
 }
 
 // What a call answers. The exact answer carries the value of the root's run, as side 1 sees it; `line` is that of refusals 1 to 3, else 0.

@@ -1,3 +1,0 @@
--- What the contracts cite. Assumes nothing.
-pub mod Placed
-pub mod Line
