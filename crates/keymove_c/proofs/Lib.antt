@@ -1,3 +1,2 @@
 -- The proofs of this crate. Assumes nothing.
-pub mod Coding
 pub mod Entry

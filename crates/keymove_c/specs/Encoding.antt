@@ -1,18 +1,11 @@
 -- An answer as four words for callers in C and Rust: its kind (0 exact, 1 none, 2 spent, 3 refused); the move, or the refusal's number; the bits of the value, or the line; the count.
 -- Assumes nothing.
-use Rattle.std.specs.Prelude.{Bool, true, false, List, [], ◌∷◌, ◌++◌, ℕ, ltb, length, drop, Float}
-use Rattle.std.specs.Float.{nan, inf, fin, binary64}
-use Rattle.std.specs.Float.Ieee.{to_bits}
+use Rattle.std.specs.Prelude.{Bool, true, false, List, [], ◌∷◌, ◌++◌, ℕ, ltb, length, drop}
+pub use Rattle.whole.specs.Bits.{value_bits}
 use Rattle.rules.specs.declared.Answer.{Answer}
 use Rattle.rules.specs.declared.Answer.TheVariants.{Exact, None, Spent, Refused}
 use Rattle.rules.specs.Answer.{refusal_number}
 use Rattle.rules.specs.Call.{Request, call}
-
--- the bits of a value, 0 for a NaN, which no call answers
-abbrev pub value_bits : Float → ℕ
-value_bits nan = 0
-value_bits (inf s) = to_bits binary64 (inf s)
-value_bits (fin s m e) = to_bits binary64 (fin s m e)
 
 abbrev pub encoded : Answer → List ℕ
 encoded (Exact t v n) = 0 ∷ t ∷ value_bits v ∷ n ∷ []

@@ -3,26 +3,25 @@
 #![tactic(auto)]
 
 ghost use Rattle.std.specs.Prelude.{◌≡◌, [], ◌∷◌, ◌++◌, ◌≤◌, length, take, drop};
-ghost use Rattle.keymove_c.specs.Encoding.{value_bits, encoded, served, entry_of};
+ghost use Rattle.keymove_c.specs.Encoding.{encoded, served, entry_of};
 ghost use Rattle.rules.specs.Call.{asked};
 
 use rules::Answer;
 
-// The bits of a value, 0 for a NaN.
-fn bits_of(v: f64) -> u64
-    ensures { result ≡ value_bits v }
+// The four words of an answer.
+fn words_of(answer: Answer) -> [u64; 4]
+    ensures { result ≡ encoded answer }
 {
-    if v <= v { f64::to_bits(v) } else { 0 }
-}
-
-fn put(out: &mut [u64], kind: u64, first: u64, second: u64, count: u64)
-    requires { 4 ≤ length out.old }
-    ensures { out.new ≡ (kind ∷ first ∷ second ∷ count ∷ []) ++ drop 4 out.old }
-{
-    out[0] = kind;
-    out[1] = first;
-    out[2] = second;
-    out[3] = count;
+    match answer {
+        Answer::Exact { key, value, nodes } => [0, key, whole::value_bits(value), nodes],
+        Answer::None => [1, 0, 0, 0],
+        Answer::Spent { nodes } => [2, 0, 0, nodes],
+        Answer::Refused {
+            refusal,
+            line,
+            nodes,
+        } => [3, u64::from(refusal), line, nodes],
+    }
 }
 
 // Writes the four words of an answer; what lies behind them is as before.
@@ -30,16 +29,7 @@ pub fn encode(answer: Answer, out: &mut [u64])
     requires { 4 ≤ length out.old }
     ensures { out.new ≡ encoded answer ++ drop 4 out.old }
 {
-    match answer {
-        Answer::Exact { key, value, nodes } => put(out, 0, key, bits_of(value), nodes),
-        Answer::None => put(out, 1, 0, 0, 0),
-        Answer::Spent { nodes } => put(out, 2, 0, 0, nodes),
-        Answer::Refused {
-            refusal,
-            line,
-            nodes,
-        } => put(out, 3, report::number_of(refusal), line, nodes),
-    }
+    out[..4].copy_from_slice(&words_of(answer));
 }
 
 // The call. Where out has fewer than four words it does nothing at all.

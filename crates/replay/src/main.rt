@@ -3,254 +3,137 @@
 
 #![tactic(auto)]
 
-ghost use Rattle.std.specs.Prelude.{◌≡◌, ◌+◌, ◌*◌, ◌<◌, ◌≤◌, length, IfOk};
+ghost use Rattle.std.specs.Prelude.{◌≤◌, length};
 
+use arrayvec::{ArrayString, ArrayVec};
+use lists::{HASH_START, Sheet};
+use report::Report;
+use rules::Answer;
+use std::fmt::Write;
 use std::io;
 use std::io::Read;
 
-// A number of a line, and where the next field begins.
+// The first line of each report.
+const HEADING: &[u8] = b"answer move value nodes\n";
+
+// A case: the settings, the lengths of the memory, and what the list says of it.
 #[derive(Clone, Copy)]
-struct Found {
-    value: u64,
-    next: usize,
-}
-
-// The number that begins at `at`, modulo 2^64, up to a space or the end.
-fn field(line: &[u8], at: usize) -> Found
-    requires { at ≤ length line.now }
-    ensures { result.next ≤ length line.now }
-{
-    let mut n: u64 = 0;
-    let mut i = at;
-    while i < line.len() {
-        if line[i] == b' ' {
-            return Found {
-                value: n,
-                next: i + 1,
-            };
-        }
-        n = std::num::wrapping_add_u64(words::wrapping_mul64(n, 10), wide(line[i] % 16));
-        i += 1;
-    }
-    Found { value: n, next: i }
-}
-
-fn wide(x: u8) -> u64 {
-    x as u64
-}
-
-// The piece that a byte stands for.
-fn piece(b: u8) -> u8 {
-    if b < 48 { 255 } else { b - 48 }
-}
-
-// Puts the pieces of the chain that begins at `at` into `chain`: how many, and where the next field begins. `-` stands for none.
-fn chain_at(line: &[u8], at: usize, chain: &mut [u8]) -> Found
-    requires { at ≤ length line.now }
-    ensures { (result.next ≤ length line.now) × (result.value ≤ length chain.old) }
-{
-    let mut k = 0;
-    let mut i = at;
-    while i < line.len() {
-        if line[i] == b' ' {
-            return Found {
-                value: k as u64,
-                next: i + 1,
-            };
-        }
-        k = put(chain, k, line[i]);
-        i += 1;
-    }
-    Found {
-        value: k as u64,
-        next: i,
-    }
-}
-
-// One piece more, unless the byte is `-`.
-fn put(chain: &mut [u8], k: usize, b: u8) -> usize
-    requires { k ≤ length chain.old }
-    ensures { result ≤ length chain.old }
-{
-    if b == b'-' {
-        return k;
-    }
-    if k < chain.len() {
-        chain[k] = piece(b);
-        return k + 1;
-    }
-    k
-}
-
-fn fill_words(words: &mut [u64]) {
-    let mut i = 0;
-    while i < words.len() {
-        words[i] = 0xA5A5_A5A5_0000_0000 | i as u64;
-        i += 1;
-    }
-}
-
-fn fill_tags(tags: &mut [u8]) {
-    let mut i = 0;
-    while i < tags.len() {
-        tags[i] = (i % 255 + 1) as u8;
-        i += 1;
-    }
-}
-
-fn hashed_bytes(h: u64, bytes: &[u8]) -> u64 {
-    let mut sum = h;
-    let mut i = 0;
-    while i < bytes.len() {
-        sum = words::wrapping_mul64(sum ^ wide(bytes[i]), 0x100_0000_01B3);
-        i += 1;
-    }
-    sum
-}
-
-// The number of sixteen hexadecimal digits.
-fn hex(line: &[u8], at: usize) -> u64
-    requires { at + 16 ≤ length line.now }
-{
-    let mut v: u64 = 0;
-    let mut i = 0;
-    while i < 8 {
-        let b = lists::byte(line[at + 2 * i], line[at + 2 * i + 1]);
-        v = words::wrapping_mul64(v, 256) | wide(b);
-        i += 1;
-    }
-    v
-}
-
-// Whether the line has the second line of a report of n bytes at `at`.
-fn has_answer(line: &[u8], at: usize, out: &[u8], n: usize) -> bool
-    requires { (25 ≤ n) × (n ≤ length out.now) × (at + n ≤ length line.now + 25) }
-{
-    let mut i = 25;
-    while i < n {
-        if line[at + i - 25] != out[i - 1] {
-            return false;
-        }
-        i += 1;
-    }
-    true
-}
-
-// Whether the line ends, from `at` on, in the second line of a report of n bytes, a space and a hash.
-fn ends_in(line: &[u8], at: usize, out: &[u8], n: usize, hash: u64) -> bool
-    requires { (at ≤ length line.now) × (n ≤ length out.now) }
-{
-    if n < 25 {
-        return false;
-    }
-    let left = line.len() - at;
-    if left < 17 {
-        return false;
-    }
-    if left - 17 != n - 25 {
-        return false;
-    }
-    if has_answer(line, at, out, n) {
-        return hex(line, line.len() - 16) == hash;
-    }
-    false
-}
-
-// The settings of a case, the lengths of the memory, and where its answer begins in its line.
-#[derive(Clone, Copy)]
-struct Case {
+struct Case<'a> {
     budget: u64,
     entries: u64,
     driver: u64,
     filters: u64,
-    pieces: u64,
-    words: u64,
-    tags: u64,
-    at: usize,
+    chain: &'a [u8],
+    words: usize,
+    tags: usize,
+    answer: &'a [u8],
+    hash: u64,
 }
 
-fn read_case(line: &[u8], chain: &mut [u8]) -> Case
-    requires { 2 ≤ length line.now }
-    ensures { (result.at ≤ length line.now) × (result.pieces ≤ length chain.old) }
-{
-    let a = field(line, 2);
-    let b = field(line, a.next);
-    let c = field(line, b.next);
-    let d = field(line, c.next);
-    let e = chain_at(line, d.next, chain);
-    let f = field(line, e.next);
-    let g = field(line, f.next);
-    Case {
-        budget: a.value,
-        entries: b.value,
-        driver: c.value,
-        filters: d.value,
-        pieces: e.value,
-        words: f.value,
-        tags: g.value,
-        at: g.next,
-    }
+// The number of a decimal text.
+fn number(text: &[u8]) -> Option<u64> {
+    std::str::from_utf8(text).ok()?.parse::<u64>().ok()
 }
 
-// Calls a case on the memory that is lent, and compares.
-fn called(
-    sheet: &[u8],
-    s: Case,
-    chain: &[u8],
-    words: &mut [u64],
-    tags: &mut [u8],
-    line: &[u8],
-    out: &mut [u8; 128],
-) -> bool
-    requires { s.at ≤ length line.now }
-{
-    fill_words(words);
-    fill_tags(tags);
-    let a = game::choose(
-        sheet, s.budget, s.entries, s.driver, s.filters, chain, words, tags,
-    );
-    let n = report::write_report(a, out);
-    let h = hashed_bytes(lists::hashed_words(0xCBF2_9CE4_8422_2325, words), tags);
-    ends_in(line, s.at, out, n, h)
+fn length(text: &[u8]) -> Option<usize> {
+    std::str::from_utf8(text).ok()?.parse::<usize>().ok()
 }
 
-// Whether the case of a line gives what the line says.
-fn case_holds(
-    sheet: &[u8],
-    line: &[u8],
-    chain: &mut [u8],
-    words: &mut [u64],
-    tags: &mut [u8],
-    out: &mut [u8; 128],
-) -> bool {
-    if line.len() < 2 {
-        return false;
+// The number of a hexadecimal text.
+fn hexadecimal(text: &[u8]) -> Option<u64> {
+    u64::from_str_radix(std::str::from_utf8(text).ok()?, 16).ok()
+}
+
+// The case of a line.
+fn read_case(line: &[u8]) -> Option<Case<'_>> {
+    let mut fields = line.splitn(9, |b| *b == b' ').skip(1);
+    let budget = number(fields.next()?)?;
+    let entries = number(fields.next()?)?;
+    let driver = number(fields.next()?)?;
+    let filters = number(fields.next()?)?;
+    let chain = fields.next()?;
+    let words = length(fields.next()?)?;
+    let tags = length(fields.next()?)?;
+    let mut ends = fields.next()?.rsplitn(2, |b| *b == b' ');
+    let hash = hexadecimal(ends.next()?)?;
+    let answer = ends.next()?;
+    Some(Case {
+        budget,
+        entries,
+        driver,
+        filters,
+        chain,
+        words,
+        tags,
+        answer,
+        hash,
+    })
+}
+
+// The pieces of a chain: `-` stands for none, else each byte for the piece and 48.
+fn pieces(chain: &[u8]) -> ArrayVec<u8, 128> {
+    let mut all = ArrayVec::new();
+    if chain != b"-".as_slice() {
+        for b in chain {
+            let _ = all.try_push(b.wrapping_sub(48));
+        }
     }
-    let s = read_case(line, chain);
-    if (words.len() as u64) < s.words {
-        return false;
+    all
+}
+
+// Whether the second line of an answer's report is this.
+fn reads(answer: Answer, line: &[u8]) -> bool {
+    let mut text = ArrayString::<128>::new();
+    let _ = write!(text, "{}", Report(answer));
+    let shown = text.as_str().as_bytes();
+    shown
+        .strip_prefix(HEADING)
+        .and_then(|l| l.strip_suffix(b"\n"))
+        == Some(line)
+}
+
+// Whether a case on a sheet gives what the list says, on memory that is lent.
+fn holds(case: Case, sheet: &[u8], words: &mut [u64], tags: &mut [u8]) -> bool {
+    for (i, w) in words.iter_mut().enumerate() {
+        *w = 0xA5A5_A5A5_0000_0000 | i as u64;
     }
-    if (tags.len() as u64) < s.tags {
-        return false;
+    for (i, t) in tags.iter_mut().enumerate() {
+        *t = (i % 255 + 1) as u8;
     }
-    let k = s.pieces as usize;
-    let w = s.words as usize;
-    let t = s.tags as usize;
-    called(
+    let chain = pieces(case.chain);
+    let answer = game::choose(
         sheet,
-        s,
-        &chain[..k],
-        &mut words[..w],
-        &mut tags[..t],
-        line,
-        out,
+        case.budget,
+        case.entries,
+        case.driver,
+        case.filters,
+        chain.as_slice(),
+        words,
+        tags,
+    );
+    let hash = lists::hashed_bytes(lists::hashed_words(HASH_START, words), tags);
+    reads(answer, case.answer) && hash == case.hash
+}
+
+// Whether the case of a line holds; a line that is no case, or asks for more memory than there is, does not.
+fn line_holds(line: &[u8], sheet: &[u8], words: &mut [u64], tags: &mut [u8]) -> bool {
+    let Some(case) = read_case(line) else {
+        return false;
+    };
+    if words.len() < case.words || tags.len() < case.tags {
+        return false;
+    }
+    holds(
+        case,
+        sheet,
+        &mut words[..case.words],
+        &mut tags[..case.tags],
     )
 }
 
-// How far the list is read: the bytes of the sheet so far, how many sheets and cases there were, how many held, whether the last line was right, and the hash of all lines.
+// How far the list is read: how many sheets and cases there were, how many held, whether the last line was right, and the hash of all lines.
 #[derive(Clone, Copy)]
-struct State {
-    n: usize,
+struct Totals {
     sheets: u64,
     cases: u64,
     held: u64,
@@ -258,270 +141,64 @@ struct State {
     hash: u64,
 }
 
-fn with_sheet(st: State, n: usize, sheets: u64) -> State
-    ensures { result.n ≡ n }
-{
-    State {
-        n: n,
-        sheets: sheets,
-        cases: st.cases,
-        held: st.held,
-        whole: st.whole,
-        hash: st.hash,
+impl Totals {
+    // Whether the last line, `e`, gives the sheets, the cases, and the hash of all before.
+    fn closes(&self, line: &[u8]) -> bool {
+        let mut text = ArrayString::<128>::new();
+        let (sheets, cases, hash) = (self.sheets, self.cases, self.hash);
+        let _ = write!(text, "e {sheets} {cases} {hash:016x}");
+        text.as_str().as_bytes() == line
     }
 }
 
-fn with_case(st: State, held: bool) -> State
-    ensures { result.n ≡ st.n }
-{
-    State {
-        n: st.n,
-        sheets: st.sheets,
-        cases: std::num::wrapping_add_u64(st.cases, 1),
-        held: std::num::wrapping_add_u64(st.held, if held { 1 } else { 0 }),
-        whole: st.whole,
-        hash: st.hash,
-    }
-}
-
-// The last line: `e`, sheets, cases, and the hash of all before.
-fn with_end(st: State, line: &[u8]) -> State
-    requires { 2 ≤ length line.now }
-    ensures { result.n ≡ st.n }
-{
-    let a = field(line, 2);
-    let b = field(line, a.next);
-    State {
-        n: st.n,
-        sheets: st.sheets,
-        cases: st.cases,
-        held: st.held,
-        whole: is_end(st, a.value, b.value, line, b.next),
-        hash: st.hash,
-    }
-}
-
-fn is_end(st: State, sheets: u64, cases: u64, line: &[u8], at: usize) -> bool
-    requires { at ≤ length line.now }
-{
-    if st.sheets != sheets {
-        return false;
-    }
-    if st.cases != cases {
-        return false;
-    }
-    if line.len() - at != 16 {
-        return false;
-    }
-    hex(line, at) == st.hash
-}
-
-// A line of the list.
-fn step(
-    st: State,
-    line: &[u8],
-    sheet: &mut [u8],
-    chain: &mut [u8],
-    words: &mut [u64],
-    tags: &mut [u8],
-    out: &mut [u8; 128],
-) -> State
-    requires { st.n ≤ length sheet.old }
-    ensures { result.n ≤ length sheet.old }
-{
-    if line.len() == 0 {
-        return st;
-    }
-    let n = st.n;
-    if line[0] == b'c' {
-        return with_case(st, case_holds(&sheet[..n], line, chain, words, tags, out));
-    }
-    if line[0] == b'e' {
-        if line.len() < 2 {
-            return st;
+// A line of the list, with its byte 10.
+fn step(totals: &mut Totals, line: &[u8], sheet: &mut Sheet, words: &mut [u64], tags: &mut [u8]) {
+    let text = line.strip_suffix(b"\n").unwrap_or(line);
+    match text.first() {
+        Some(b'c') => {
+            totals.cases = totals.cases.wrapping_add(1);
+            if line_holds(text, sheet.text(), words, tags) {
+                totals.held = totals.held.wrapping_add(1);
+            }
         }
-        return with_end(st, line);
-    }
-    let sheets = std::num::wrapping_add_u64(st.sheets, if line[0] == b's' { 1 } else { 0 });
-    let to = lists::build(sheet, n, line);
-    with_sheet(st, to, sheets)
-}
-
-// The state with a line and its byte 10 in the hash.
-fn after(st: State, line: &[u8]) -> State
-    ensures { result.n ≡ st.n }
-{
-    State {
-        n: st.n,
-        sheets: st.sheets,
-        cases: st.cases,
-        held: st.held,
-        whole: st.whole,
-        hash: hashed_bytes(hashed_bytes(st.hash, line), b"\n"),
-    }
-}
-
-// A line of the list, with its bytes in the hash.
-fn passed(
-    st: State,
-    line: &[u8],
-    sheet: &mut [u8],
-    chain: &mut [u8],
-    words: &mut [u64],
-    tags: &mut [u8],
-    out: &mut [u8; 128],
-) -> State
-    requires { st.n ≤ length sheet.old }
-    ensures { result.n ≤ length sheet.old }
-{
-    let to = step(st, line, sheet, chain, words, tags, out);
-    after(to, line)
-}
-
-// Goes through lines of the list.
-fn run(
-    first: State,
-    list: &[u8],
-    sheet: &mut [u8],
-    chain: &mut [u8],
-    words: &mut [u64],
-    tags: &mut [u8],
-    out: &mut [u8; 128],
-) -> State
-    requires { first.n ≤ length sheet.old }
-    ensures { result.n ≤ length sheet.old }
-{
-    let mut st = first;
-    let mut at = 0;
-    while at < list.len() {
-        let end = lists::line_end(list, at);
-        st = passed(st, &list[at..end], sheet, chain, words, tags, out);
-        at = end + 1;
-    }
-    st
-}
-
-// How many bytes the lines have that are ended.
-fn ended(list: &[u8]) -> usize
-    ensures { result ≤ length list.now }
-{
-    let mut n = list.len();
-    while 0 < n {
-        if list[n - 1] == b'\n' {
-            return n;
+        Some(b'e') => totals.whole = totals.closes(text),
+        Some(b's') => {
+            totals.sheets = totals.sheets.wrapping_add(1);
+            sheet.build(text);
         }
-        n -= 1;
+        _ => sheet.build(text),
     }
-    n
+    totals.hash = lists::hashed_bytes(totals.hash, line);
 }
 
-// Moves the bytes from `from` up to n to the start; how many there are.
-fn moved(buf: &mut [u8], from: usize, n: usize) -> usize
-    requires { (from ≤ n) × (n ≤ length buf.old) }
-    ensures { result ≤ length buf.old }
-{
-    let mut i = from;
-    while i < n {
-        buf[i - from] = buf[i];
-        i += 1;
-    }
-    n - from
-}
-
-// Reads behind the first `left` bytes; how many there are then.
-fn more<R: Read>(reader: &mut R, buf: &mut [u8], left: usize) -> io::Result<usize>
-    requires { left ≤ length buf.old }
-    ensures { IfOk result (λ n. (left ≤ n) × (n ≤ length buf.old)) }
-{
-    let n = streams::read_full(reader, &mut buf[left..])?;
-    Ok(left + n)
-}
-
-// Reads the list part by part, and goes through the lines that are ended. No list takes 64 turns.
-fn all<R: Read>(
-    reader: &mut R,
-    buf: &mut [u8],
-    sheet: &mut [u8],
-    chain: &mut [u8],
-    words: &mut [u64],
-    tags: &mut [u8],
-    out: &mut [u8; 128],
-) -> io::Result<State> {
-    let mut st = State {
-        n: 0,
+// Goes through the list, line by line.
+fn run(list: &[u8], bytes: &mut [u8], words: &mut [u64], tags: &mut [u8]) -> Totals {
+    let mut sheet = Sheet::new(bytes);
+    let mut totals = Totals {
         sheets: 0,
         cases: 0,
         held: 0,
         whole: false,
-        hash: 0xCBF2_9CE4_8422_2325,
+        hash: HASH_START,
     };
-    let mut left = 0;
-    let mut turns: usize = 0;
-    while turns < 64 {
-        let n = more(reader, buf, left)?;
-        let u = ended_of(buf, n);
-        st = run_part(st, buf, u, sheet, chain, words, tags, out);
-        left = moved(buf, u, n);
-        turns += 1;
+    for line in list.split_inclusive(|b| *b == b'\n') {
+        step(&mut totals, line, &mut sheet, words, tags);
     }
-    Ok(st)
+    totals
 }
 
-fn ended_of(buf: &[u8], n: usize) -> usize
-    requires { n ≤ length buf.now }
-    ensures { result ≤ n }
-{
-    let r = ended(&buf[..n]);
-    if r <= n { r } else { n }
-}
-
-fn run_part(
-    st: State,
-    buf: &[u8],
-    n: usize,
-    sheet: &mut [u8],
-    chain: &mut [u8],
-    words: &mut [u64],
-    tags: &mut [u8],
-    out: &mut [u8; 128],
-) -> State
-    requires { (st.n ≤ length sheet.old) × (n ≤ length buf.now) }
-    ensures { result.n ≤ length sheet.old }
-{
-    run(st, &buf[..n], sheet, chain, words, tags, out)
-}
-
-fn print(rt: &impl Print, n: u64, text: &[u8]) -> io::Result<()> {
-    rt.print(n)?;
-    rt.write_all(text)
-}
-
-fn show(rt: &impl Print, st: State) -> io::Result<()> {
-    print(rt, st.sheets, b" sheets, ")?;
-    print(rt, st.cases, b" cases, ")?;
-    print(rt, st.held, b" as the list says, list ")?;
-    if st.whole {
-        rt.write_all(b"whole\n")
-    } else {
-        rt.write_all(b"damaged\n")
-    }
+fn show(rt: &impl Print, totals: Totals) -> io::Result<()> {
+    let (sheets, cases, held) = (totals.sheets, totals.cases, totals.held);
+    let whole = if totals.whole { "whole" } else { "damaged" };
+    println!(rt; "{sheets} sheets, {cases} cases, {held} as the list says, list {whole}")
 }
 
 fn main(rt: HostRuntime) -> io::Result<()> {
-    let mut list = [0u8; 65536];
+    let mut list = Vec::new(rt.alloc());
+    rt.stdin().read_to_end(&mut list)?;
     let mut sheet = [0u8; 70000];
-    let mut chain = [0u8; 128];
     let mut words = [0u64; 7200];
     let mut tags = [0u8; 1100];
-    let mut out = [0u8; 128];
-    let st = all(
-        &mut rt.stdin(),
-        &mut list,
-        &mut sheet,
-        &mut chain,
-        &mut words,
-        &mut tags,
-        &mut out,
-    )?;
-    show(&rt, st)
+    let totals = run(&list, &mut sheet, &mut words, &mut tags);
+    show(&rt, totals)
 }

@@ -3,261 +3,148 @@
 
 #![tactic(auto)]
 
-ghost use Rattle.std.specs.Prelude.{◌<◌, ◌≤◌, length};
+ghost use Rattle.std.specs.Prelude.{◌≤◌, length};
 
+use report::Report;
 use rules::{Answer, Refusal};
 use std::env::{Env, FillError};
-use std::io;
+use std::{fmt, io};
 
-// A setting: its number, at most 2^64 - 1, or that it is none.
+// The settings of a call.
 #[derive(Clone, Copy)]
-enum Given {
-    Is(u64),
-    Malformed,
+struct Settings<'a> {
+    budget: u64,
+    entries: u64,
+    driver: u64,
+    filters: u64,
+    chain: &'a [u8],
 }
 
-fn wide(x: u8) -> u64 {
-    x as u64
+// A refusal in words, with its line where it has one.
+#[derive(Clone, Copy)]
+struct Reason {
+    refusal: Refusal,
+    line: u64,
 }
 
-// One digit more; a number from 10^19 on becomes the largest of 64 bits.
-fn longer(n: u64, digit: u64) -> u64 {
-    if n < 1_000_000_000_000_000_000 {
-        return std::num::wrapping_add_u64(words::wrapping_mul64(n, 10), digit);
-    }
-    18446744073709551615
-}
-
-// The number of decimal digits.
-fn digits(text: &[u8]) -> Given {
-    if text.len() == 0 {
-        return Given::Malformed;
-    }
-    let mut n: u64 = 0;
-    let mut i = 0;
-    while i < text.len() {
-        let b = text[i];
-        if b < b'0' {
-            return Given::Malformed;
-        }
-        if b'9' < b {
-            return Given::Malformed;
-        }
-        n = longer(n, wide(b % 16));
-        i += 1;
-    }
-    Given::Is(n)
-}
-
-// A number with `-` before it, which no range has, as the largest; `-0` is none.
-fn negative(size: Given) -> Given {
-    match size {
-        Given::Malformed => Given::Malformed,
-        Given::Is(n) => {
-            if n == 0 {
-                return Given::Malformed;
+impl fmt::Display for Reason {
+    fn fmt<W: fmt::Write>(&self, f: &mut fmt::Formatter<W>) -> fmt::Result {
+        f.write_str(match self.refusal {
+            Refusal::Sheet if self.line == 0 => "the sheet has more than 65,536 bytes",
+            Refusal::Sheet => "a line of the sheet is malformed",
+            Refusal::Range => "a number, an index or a count of rows is beyond a limit",
+            Refusal::Roll => {
+                "a place is marked or a transition given its role twice, or it has none"
             }
-            Given::Is(18446744073709551615)
+            Refusal::Settings => "a setting is outside its range",
+            Refusal::NoGoals => "the chain reads goals and the net has none",
+            Refusal::Memory => "the memory that was lent is too small",
+            Refusal::Unsettled => "an automatic transition is enabled at the start",
+            Refusal::Mixed => "moves of two sides, or of side 0, in one position",
+            Refusal::Spilled => "a firing would leave 0/1",
+            Refusal::Endless => "10,000 automatic firings after one move",
+            Refusal::Wide => "more than 64 moves in one position",
+            Refusal::Deep => "a node 65 moves below its run's root",
+        })?;
+        if self.line > 0 {
+            write!(f, ", line {}", self.line)?;
         }
+        Ok(())
     }
 }
 
-// A number as a sheet has it, but for leading zeros.
-fn number(text: &[u8]) -> Given {
-    if text.len() == 0 {
-        return Given::Malformed;
+// The number of decimal digits; one past 64 bits is the largest.
+fn digits(text: &[u8]) -> Option<u64> {
+    if text.is_empty() || !text.iter().all(|b| b.is_ascii_digit()) {
+        return None;
     }
-    if text[0] == b'-' {
-        return negative(digits(&text[1..]));
-    }
-    digits(text)
+    Some(
+        text.iter().fold(0u64, |n, b| {
+            n.saturating_mul(10).saturating_add(u64::from(*b % 16))
+        }),
+    )
 }
 
-// Puts argument i at the start of buf: how many bytes it has, 0 where it is missing or longer than buf.
-fn argument(rt: &impl Env, i: usize, buf: &mut [u8]) -> usize
-    ensures { result ≤ length buf.new }
-{
-    match rt.arg(i, buf) {
-        Ok(n) => n,
-        Err(_) => 0,
+// A number as a sheet has it, but for leading zeros. One with `-` before it, which no range has, is the largest; `-0` is none.
+fn number(text: &[u8]) -> Option<u64> {
+    let Some(size) = text.strip_prefix(b"-") else {
+        return digits(text);
+    };
+    if digits(size)? == 0 {
+        return None;
     }
+    Some(u64::MAX)
 }
 
-// Whether argument i is given.
+// Argument i at the start of buf, or nothing where it is missing or longer than buf.
+fn argument<'a>(rt: &impl Env, i: usize, buf: &'a mut [u8]) -> &'a mut [u8] {
+    let n = rt.arg(i, buf).unwrap_or(0);
+    &mut buf[..n]
+}
+
 fn has_argument(rt: &impl Env, i: usize) -> bool {
     !matches!(rt.arg(i, &mut []), Err(FillError::NotPresent))
 }
 
 // Argument i as a number.
-fn setting(rt: &impl Env, i: usize) -> Given {
+fn setting(rt: &impl Env, i: usize) -> Option<u64> {
     let mut buf = [0u8; 4096];
-    let n = argument(rt, i, &mut buf);
-    number(&buf[..n])
+    number(argument(rt, i, &mut buf))
 }
 
-// Turns the digits of a chain into pieces, in place: how many, or that it is none.
-fn pieces(text: &mut [u8], n: usize) -> Given
-    requires { n ≤ length text.old }
-{
-    let mut i = 0;
-    while i < n {
-        let b = text[i];
-        if b < b'0' {
-            return Given::Malformed;
-        }
-        if b'9' < b {
-            return Given::Malformed;
-        }
-        text[i] = b - b'0';
-        i += 1;
+// The pieces of a chain, in place of its digits.
+fn pieces(text: &mut [u8]) -> Option<&[u8]> {
+    if &*text == b"-".as_slice() {
+        return Some(&[]);
     }
-    Given::Is(n as u64)
-}
-
-// Argument 5: its pieces stand in buf then.
-fn chain(rt: &impl Env, buf: &mut [u8]) -> Given {
-    let n = argument(rt, 5, buf);
-    if n == 0 {
-        return Given::Malformed;
+    if text.is_empty() || !text.iter().all(|b| b.is_ascii_digit()) {
+        return None;
     }
-    if n == 1 {
-        if buf.len() == 0 {
-            return Given::Malformed;
-        }
-        if buf[0] == b'-' {
-            return Given::Is(0);
-        }
+    for b in text.iter_mut() {
+        *b %= 16;
     }
-    pieces(buf, n)
+    Some(text)
 }
 
-fn say(err: &impl Print, text: &[u8]) -> io::Result<()> {
-    err.write_all(text)
+// The settings that the arguments give; the pieces of the chain stand in buf.
+fn given<'a>(rt: &impl Env, buf: &'a mut [u8]) -> Option<Settings<'a>> {
+    Some(Settings {
+        budget: setting(rt, 1)?,
+        entries: setting(rt, 2)?,
+        driver: setting(rt, 3)?,
+        filters: setting(rt, 4)?,
+        chain: pieces(argument(rt, 5, buf))?,
+    })
 }
 
-fn usage(err: &impl Print) -> io::Result<()> {
-    say(err, b"solve BUDGET ENTRIES DRIVER FILTERS CHAIN < SHEET\n")
+fn usage(rt: &impl Eprint) -> io::Result<()> {
+    eprintln!(rt; "solve BUDGET ENTRIES DRIVER FILTERS CHAIN < SHEET")
 }
 
-fn explain_sheet(err: &impl Print, line: u64) -> io::Result<()> {
-    if line == 0 {
-        say(err, b"the sheet has more than 65,536 bytes")
-    } else {
-        say(err, b"a line of the sheet is malformed")
-    }
-}
-
-fn explain(err: &impl Print, refusal: Refusal, line: u64) -> io::Result<()> {
-    match refusal {
-        Refusal::Sheet => explain_sheet(err, line),
-        Refusal::Range => say(
-            err,
-            b"a number, an index or a count of rows is beyond a limit",
-        ),
-        Refusal::Roll => say(
-            err,
-            b"a place is marked or a transition given its role twice, or it has none",
-        ),
-        Refusal::Settings => say(err, b"a setting is outside its range"),
-        Refusal::NoGoals => say(err, b"the chain reads goals and the net has none"),
-        Refusal::Memory => say(err, b"the memory that was lent is too small"),
-        Refusal::Unsettled => say(err, b"an automatic transition is enabled at the start"),
-        Refusal::Mixed => say(err, b"moves of two sides, or of side 0, in one position"),
-        Refusal::Spilled => say(err, b"a firing would leave 0/1"),
-        Refusal::Endless => say(err, b"10,000 automatic firings after one move"),
-        Refusal::Wide => say(err, b"more than 64 moves in one position"),
-        Refusal::Deep => say(err, b"a node 65 moves below its run's root"),
-    }
-}
-
-// A refusal in words.
-fn told(err: &impl Print, answer: Answer) -> io::Result<()> {
-    if let Answer::Refused {
-        refusal,
-        line,
-        nodes,
-    } = answer
-    {
-        say(err, b"refused: ")?;
-        explain(err, refusal, line)?;
-        if 0 < line {
-            say(err, b", line ")?;
-            err.print(line)?;
-        }
-        return say(err, b"\n");
-    }
-    Ok(())
-}
-
-// Writes the first n bytes of a text.
-fn write(rt: &impl Print, text: &[u8], n: usize) -> io::Result<()>
-    requires { n ≤ length text.now }
-{
-    rt.write_all(&text[..n])
-}
-
-// The call with the first k pieces of a chain, on the memory that is lent, and what is written of it.
+// The call on the memory that is lent, and what is written of it.
 fn run(
-    rt: &impl Print,
-    err: &impl Print,
-    budget: u64,
-    entries: u64,
-    driver: u64,
-    filters: u64,
-    chain: &[u8],
-    k: u64,
+    rt: &(impl Print + Eprint),
+    settings: Settings,
     sheet: &[u8],
     words: &mut [u64; 7168],
     tags: &mut [u8; 1024],
-    out: &mut [u8; 128],
 ) -> io::Result<()> {
-    if (chain.len() as u64) < k {
-        return Ok(());
-    }
-    let n = k as usize;
-    let a = game::choose(
+    let answer = game::choose(
         sheet,
-        budget,
-        entries,
-        driver,
-        filters,
-        &chain[..n],
+        settings.budget,
+        settings.entries,
+        settings.driver,
+        settings.filters,
+        settings.chain,
         words,
         tags,
     );
-    let m = report::write_report(a, out);
-    write(rt, out, m)?;
-    told(err, a)
-}
-
-// Reads the settings; the pieces of the chain stand in buf.
-fn with_settings(
-    rt: &(impl Env + Print),
-    err: &impl Print,
-    buf: &mut [u8],
-    sheet: &[u8],
-    words: &mut [u64; 7168],
-    tags: &mut [u8; 1024],
-    out: &mut [u8; 128],
-) -> io::Result<()> {
-    let Given::Is(budget) = setting(rt, 1) else {
-        return usage(err);
-    };
-    let Given::Is(entries) = setting(rt, 2) else {
-        return usage(err);
-    };
-    let Given::Is(driver) = setting(rt, 3) else {
-        return usage(err);
-    };
-    let Given::Is(filters) = setting(rt, 4) else {
-        return usage(err);
-    };
-    let Given::Is(k) = chain(rt, buf) else {
-        return usage(err);
-    };
-    run(
-        rt, err, budget, entries, driver, filters, buf, k, sheet, words, tags, out,
-    )
+    rt.print(Report(answer))?;
+    if let Answer::Refused { refusal, line, .. } = answer {
+        let reason = Reason { refusal, line };
+        eprintln!(rt; "refused: {reason}")?;
+    }
+    Ok(())
 }
 
 fn main(rt: HostRuntime) -> io::Result<()> {
@@ -265,18 +152,12 @@ fn main(rt: HostRuntime) -> io::Result<()> {
     let mut buf = [0u8; 4096];
     let mut words = [0u64; 7168];
     let mut tags = [0u8; 1024];
-    let mut out = [0u8; 128];
     if !has_argument(&rt, 5) || has_argument(&rt, 6) {
-        return usage(&rt.stderr());
+        return usage(&rt);
     }
     let n = streams::read_full(&mut rt.stdin(), &mut sheet)?;
-    with_settings(
-        &rt,
-        &rt.stderr(),
-        &mut buf,
-        &sheet[..n],
-        &mut words,
-        &mut tags,
-        &mut out,
-    )
+    let Some(settings) = given(&rt, &mut buf) else {
+        return usage(&rt);
+    };
+    run(&rt, settings, &sheet[..n], &mut words, &mut tags)
 }

@@ -5,12 +5,9 @@ use Prim.Native.Nat.{ℕ}
 use Rattle.rules.specs.declared.Answer.{Answer}
 use Rattle.rules.specs.Answer.{report}
 use Rattle.rules.specs.Call.{Result, call, asked}
-use Rattle.keymove.proofs.lines.Goals as goal
+use Rattle.keymove.proofs.answer.Goals as goal
 
 pub returns : goal.returns
 returns c =
-    let w = c.write_report.ensures in (
-      w.0 ∙ ap (λ (d : Result Answer). report d.answer) (sym c.choose-a.ensures.is_call)
-          ∙ ap₂ (λ (x y : List ℕ). report (call (asked c.args.sheet.now 1000 1024 1 1 (0 ∷ 1 ∷ 2 ∷ []) x y)).answer) c.requires.0 c.requires.1,
-      w.2,
-    )
+    ap (λ (d : Result Answer). report d.answer) (sym c.choose.ensures.is_call)
+    ∙ ap₂ (λ (x y : List ℕ). report (call (asked c.args.sheet.now 1000 1024 1 1 (0 ∷ 1 ∷ 2 ∷ []) x y)).answer) c.requires.0 c.requires.1

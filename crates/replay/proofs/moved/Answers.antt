@@ -1,6 +1,0 @@
--- `replay::moved` is safe and ends. Assumes nothing.
-use Rattle.std.proofs.Common.{arith, length-set}
-use Rattle.replay.proofs.moved.Goals as goal
-
-pub loop-i-preserved : goal.loop-i-preserved
-loop-i-preserved c = (omega arith, omega arith, simp length-set c.loop-i.invariant.2)
