@@ -4,63 +4,34 @@
 
 #![tactic(auto)]
 
-ghost use Rattle.std.specs.Prelude.{◌≤◌, ◌<◌, length, IfOk};
+ghost use Rattle.std.specs.Prelude.{◌≤◌, length, IfOk};
 
-use rules::Refusal;
-use sheet::Read;
 use std::io;
 
-// FNV-1a over the first n words.
-fn mixed(rows: &[u64], n: usize) -> u64 {
+// FNV-1a over words.
+fn mixed(rows: &[u64]) -> u64 {
     let mut h: u64 = 14695981039346656037;
-    let mut i = 0;
-    while i < rows.len() {
-        if n <= i {
-            return h;
-        }
-        h = words::wrapping_mul64(h ^ rows[i], 1099511628211);
-        i += 1;
+    for row in rows {
+        h = (h ^ *row).wrapping_mul(1099511628211);
     }
     h
-}
-
-fn number_of(refusal: Refusal) -> u64 {
-    match refusal {
-        Refusal::Sheet => 1,
-        Refusal::Range => 2,
-        Refusal::Roll => 3,
-        _ => 0,
-    }
-}
-
-// A space and a number.
-fn show(rt: &impl Print, n: u64) -> io::Result<()> {
-    rt.write_all(b" ")?;
-    rt.print(n)
 }
 
 // Reads a sheet, and writes what it gives.
 fn answer(rt: &impl Print, text: &[u8], rows: &mut [u64; 6560]) -> io::Result<()> {
     match sheet::read_sheet(text, rows) {
-        Read::Net {
-            transitions,
-            places,
-            rows: n,
-        } => {
-            rt.write_all(b"net")?;
-            show(rt, transitions)?;
-            show(rt, places)?;
-            show(rt, n as u64)?;
-            let h = mixed(rows, n);
-            print!(rt; " {h:016x}")?;
+        Ok(size) => {
+            let h = mixed(&rows[..size.rows]);
+            println!(rt;
+                "net {} {} {} {h:016x}",
+                size.transitions, size.places, size.rows
+            )
         }
-        Read::Refused { refusal, line } => {
-            rt.write_all(b"refused")?;
-            show(rt, number_of(refusal))?;
-            show(rt, line)?;
+        Err(fault) => {
+            let number = report::number_of(fault.refusal);
+            println!(rt; "refused {number} {}", fault.line)
         }
     }
-    rt.write_all(b"\n")
 }
 
 // A line of the list: a case, or a part of a sheet of n bytes; how many bytes the sheet has then.
@@ -74,7 +45,7 @@ fn step(
     requires { n ≤ length sheet.old }
     ensures { IfOk result (λ to. to ≤ length sheet.old) }
 {
-    if line.len() == 0 {
+    if line.is_empty() {
         return Ok(n);
     }
     if line[0] == b'c' {
@@ -85,13 +56,10 @@ fn step(
 }
 
 // Goes through the list, line by line.
-fn run(rt: &impl Print, list: &[u8], sheet: &mut [u8], rows: &mut [u64; 6560]) -> io::Result<()> {
+fn run(rt: &HostRuntime, list: &[u8], sheet: &mut [u8], rows: &mut [u64; 6560]) -> io::Result<()> {
     let mut n = 0;
-    let mut at = 0;
-    while at < list.len() {
-        let end = lists::line_end(list, at);
-        n = step(rt, sheet, n, &list[at..end], rows)?;
-        at = end + 1;
+    for line in list.split(|b| *b == b'\n') {
+        n = step(rt, sheet, n, line, rows)?;
     }
     Ok(())
 }
