@@ -11,7 +11,6 @@ ghost use Rattle.bits.specs.Compiled.{net_words};
 ghost use Rattle.indexed.specs.Limited.{Limited};
 
 use bits::{Bitset, Played, Position, Turn};
-use sheet::Read;
 use std::io;
 
 // Where a walk stands.
@@ -222,19 +221,15 @@ fn answer(
     cells: &mut [u64; 65536],
 ) -> io::Result<()> {
     match sheet::read_sheet(text, rows) {
-        Read::Net {
-            transitions,
-            places,
-            rows: n,
-        } => {
-            let h = walk(rows, n, transitions, places, moves, c, cells);
+        Ok(size) => {
+            let transitions = size.transitions as u64;
+            let places = size.places as u64;
+            let h = walk(rows, size.rows, transitions, places, moves, c, cells);
             show(rt, transitions)?;
             show(rt, places)?;
             print!(rt; "{h:016x}")?;
         }
-        Read::Refused { refusal, line } => {
-            rt.write_all(b"refused")?;
-        }
+        Err(_) => rt.write_all(b"refused")?,
     }
     rt.write_all(b"\n")
 }

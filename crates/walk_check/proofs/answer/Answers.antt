@@ -5,5 +5,5 @@ use Rattle.walk_check.proofs.answer.Goals as goal
 
 pub walk-h-requires : goal.walk-h-requires
 walk-h-requires g c =
-    let (few, limited) = read_limited _ _ _ _ _ _ _ c.in-Net.is c.read_sheet.ensures.rows_after c.read_sheet.ensures.beyond in
+    let (few, limited) = read_limited _ _ _ _ _ c.in-Ok.is c.read_sheet.ensures.rows_after c.read_sheet.ensures.beyond in
     (few, limited, search rules, search rules)
