@@ -3,7 +3,7 @@ use mathlib.Core.Path.{◌≡◌, refl, sym, ap, subst, ◌∙◌}
 use mathlib.Core.Bool.{Bool, true, false, cond, ◌&&◌}
 use mathlib.Core.List.Memᴰ
 use mathlib.Core.List.{List, [], ◌∷◌, ◌++◌, map, map-append, Memᴰ}
-use Prim.Native.Nat.{ℕ, ◌+◌, ◌*◌, ◌/◌, ◌%◌, ◌^◌, ◌≤◌, ◌<◌, zero-le}
+use Prim.Native.Nat.{ℕ, ◌+◌, ◌*◌, ◌^◌, ◌≤◌, ◌<◌, zero-le}
 use native.Mathlib.Nat.{mul-suc, mul-le-mul, mul-le-mul_left, le_trans, le_of_eq}
 use native.Mathlib.Omega.{arith}
 use lib.Dec.{eqb}
@@ -11,22 +11,19 @@ use lib.IntN.{ℤ, pos, nat_abs, ◌+ℤ◌, ◌*ℤ◌, +ℤ_idr, +ℤ_idl}
 use lib.Ieee.{Float, binary64, add, mul, of_bits}
 use lib.ListN.{length, get_or, take, drop, length-append}
 use lib.Seq.{length-take-le, get_or-take}
-use borrow.Author.Tests.{eq-eqb, ne_eqb}
 use Rattle.words.specs.Lists.{filter}
-use Rattle.words.specs.Words.{field}
 use Rattle.words.proofs.Lists.{mem_get_d, filter-append, filter_in, filter-length}
 use Rattle.whole.specs.Int.{sum_z}
 use Rattle.whole.specs.Whole.{whole_f, Small, Whole}
 use Rattle.whole.proofs.Ints.{nat_abs_add, nat_abs_mul, sum-append}
 use Rattle.whole.proofs.Wholes.{zero_whole, add_small, add-mul_whole}
 use Rattle.rules.specs.Limits.{max_number, max_rows}
-use Rattle.rules.specs.Net.{Row, Net, pay, output, is, code, rows_of, arcs}
+use Rattle.rules.specs.Net.{Row, Net, pay, output, is, rows_of, arcs}
 use Rattle.rules.specs.Goals.{reward_at, paid}
-use Rattle.sheet.specs.Packed.{kind_of, unpack, net_in}
+use Rattle.sheet.specs.Packed.{unpack, net_in}
 use Rattle.indexed.specs.Limited.{Limited}
 use Rattle.indexed.specs.Goals.{reward_part, paid_part}
-use Rattle.indexed.proofs.Conditions.{packed, code_is}
-use Rattle.indexed.proofs.Rows.{net_more, rows_split}
+use Rattle.indexed.proofs.More.{net_more, rows_split}
 
 -- ---- sums over rows that pass two tests
 
@@ -145,43 +142,27 @@ module _ (ts ps n : ℕ) (ws : List ℕ) (limits : Limited (net_in ts ps n ws)) 
 
   -- a row of the transition, and any other
   module _ (w : ℕ) where
-    output_word : is output (unpack w) && eqb (unpack w).at t ≡ eqb (w % 16) 6 && eqb (w / 16 % 256) t
-    unfolding unpack
-    output_word =
-        let k : field 0 4 w ≡ w % 16 = omega arith in
-        ap (λ (b : Bool). b && eqb (w / 16 % 256) t) (ap (λ (z : ℕ). eqb (code (kind_of z)) 6) k ∙ code_is (w % 16) 6 (omega arith))
-
-    pub paid_other : eqb (w % 16) 6 && eqb (w / 16 % 256) t ≡ false → Whole (of_bits binary64 0) (paid_part (net_in ts ps n ws) t (unpack w))
+    pub paid_other : is output (unpack w) && eqb (unpack w).at t ≡ false → Whole (of_bits binary64 0) (paid_part (net_in ts ps n ws) t (unpack w))
     unfolding paid_part
-    paid_other e = rw (output_word ∙ e) zero_whole
+    paid_other e = rw e zero_whole
 
-    pub paid_here : (x y : Float) → eqb (w % 16) 6 && eqb (w / 16 % 256) t ≡ true → Memᴰ (unpack w) (map unpack (take n ws)) →
-        Whole x (reward_at (net_in ts ps n ws) (w / 4096 % 256)) → Whole y (packed (w / 0x10_0000 % 0x20_0000)) → Whole (add binary64 (of_bits binary64 0) (mul binary64 x y)) (paid_part (net_in ts ps n ws) t (unpack w))
-    unfolding paid_part unpack
+    pub paid_here : (x y : Float) → is output (unpack w) && eqb (unpack w).at t ≡ true → Memᴰ (unpack w) (map unpack (take n ws)) →
+        Whole x (reward_at (net_in ts ps n ws) (unpack w).place) → Whole y (unpack w).n → Whole (add binary64 (of_bits binary64 0) (mul binary64 x y)) (paid_part (net_in ts ps n ws) t (unpack w))
+    unfolding paid_part
     paid_here x y e i v u =
         let s : Small (worth (unpack w)) = record { size = omega (arith, worth_size (unpack w) i) } in
-        rw (output_word ∙ e) (record { is = add-mul_whole zero_whole v u s ∙ ap whole_f (+ℤ_idl (worth (unpack w))); small = s })
+        rw e (record { is = add-mul_whole zero_whole v u s ∙ ap whole_f (+ℤ_idl (worth (unpack w))); small = s })
 
 -- ---- one row
 
 module _ (p w : ℕ) where
-  pay_here : is pay (unpack w) && eqb (unpack w).place p ≡ eqb (w % 16) 2 && eqb (w / 4096 % 256) p
-  unfolding unpack
-  pay_here =
-      let k : field 0 4 w ≡ w % 16 = omega arith in
-      ap (λ (b : Bool). b && eqb (w / 4096 % 256) p) (ap (λ (z : ℕ). eqb (code (kind_of z)) 2) k ∙ code_is (w % 16) 2 (omega arith))
-
-  pub reward_not : (w % 16 ≡ 2 → ⊥) → Whole (of_bits binary64 0) (reward_part p (unpack w))
+  pub reward_not : is pay (unpack w) && eqb (unpack w).place p ≡ false → Whole (of_bits binary64 0) (reward_part p (unpack w))
   unfolding reward_part
-  reward_not n = rw (pay_here, ne_eqb (w % 16) 2 n) zero_whole
+  reward_not e = rw e zero_whole
 
-  pub reward_elsewhere : w % 16 ≡ 2 → (w / 4096 % 256 ≡ p → ⊥) → Whole (of_bits binary64 0) (reward_part p (unpack w))
+  pub reward_here : (x : Float) → is pay (unpack w) && eqb (unpack w).place p ≡ true → Whole x (unpack w).n → Whole x (reward_part p (unpack w))
   unfolding reward_part
-  reward_elsewhere e n = rw (pay_here, eq-eqb (w % 16) 2 e, ne_eqb (w / 4096 % 256) p n) zero_whole
-
-  pub reward_here : (x : Float) → w % 16 ≡ 2 → w / 4096 % 256 ≡ p → Whole x (packed (w / 0x10_0000 % 0x20_0000)) → Whole x (reward_part p (unpack w))
-  unfolding reward_part unpack
-  reward_here x e f v = rw (pay_here, eq-eqb (w % 16) 2 e, eq-eqb (w / 4096 % 256) p f) v
+  reward_here x e v = rw e v
 
 -- a row of the words is a row of the net
 pub row_in : (i n : ℕ) (ws : List ℕ) → i < n → n ≤ length ws → Memᴰ (unpack (get_or ws i 0)) (map unpack (take n ws))

@@ -1,12 +1,11 @@
 -- Laws of compiling a net. Assumes nothing.
 pub mod Conditions
-pub mod Rows
+pub mod More
 pub mod Cells
 pub mod Sets
 pub mod Masks
 pub mod Wakes
 pub mod Roles
-pub mod Chosen
 pub mod Crosses
 pub mod Stages
 pub mod Pays
