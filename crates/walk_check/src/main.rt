@@ -202,7 +202,12 @@ fn walk(
     }
     lists::clear(c);
     lists::clear(cells);
-    indexed::compile_walk(rows, n, transitions as usize, places as usize, c, cells);
+    let net = indexed::Rows {
+        words: &rows[..n],
+        transitions: transitions as usize,
+        places: places as usize,
+    };
+    indexed::compile_walk(net, c, cells);
     follow(c, transitions, bits::fresh(c, start(rows, n)), moves)
 }
 
