@@ -4,8 +4,7 @@
 
 #![tactic(auto)]
 
-ghost use Rattle.std.specs.Prelude.{◌≤◌, length, IfOk};
-
+use lists::Sheet;
 use std::io;
 
 // FNV-1a over words.
@@ -28,38 +27,20 @@ fn answer(rt: &impl Print, text: &[u8], rows: &mut [u64; 6560]) -> io::Result<()
             )
         }
         Err(fault) => {
-            let number = report::number_of(fault.refusal);
+            let number = u64::from(fault.refusal);
             println!(rt; "refused {number} {}", fault.line)
         }
     }
 }
 
-// A line of the list: a case, or a part of a sheet of n bytes; how many bytes the sheet has then.
-fn step(
-    rt: &impl Print,
-    sheet: &mut [u8],
-    n: usize,
-    line: &[u8],
-    rows: &mut [u64; 6560],
-) -> io::Result<usize>
-    requires { n ≤ length sheet.old }
-    ensures { IfOk result (λ to. to ≤ length sheet.old) }
-{
-    if line.is_empty() {
-        return Ok(n);
-    }
-    if line[0] == b'c' {
-        answer(rt, &sheet[..n], rows)?;
-        return Ok(n);
-    }
-    Ok(lists::build(sheet, n, line))
-}
-
-// Goes through the list, line by line.
-fn run(rt: &HostRuntime, list: &[u8], sheet: &mut [u8], rows: &mut [u64; 6560]) -> io::Result<()> {
-    let mut n = 0;
+// Goes through the list, line by line: a case is read, another line builds the sheet.
+fn run(rt: &impl Print, list: &[u8], bytes: &mut [u8], rows: &mut [u64; 6560]) -> io::Result<()> {
+    let mut sheet = Sheet::new(bytes);
     for line in list.split(|b| *b == b'\n') {
-        n = step(rt, sheet, n, line, rows)?;
+        match line.first() {
+            Some(b'c') => answer(rt, sheet.text(), rows)?,
+            _ => sheet.build(line),
+        }
     }
     Ok(())
 }

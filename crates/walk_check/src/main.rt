@@ -5,12 +5,13 @@
 
 #![tactic(auto)]
 
-ghost use Rattle.std.specs.Prelude.{◌≡◌, ◌≤◌, ◌<◌, length, IfOk};
+ghost use Rattle.std.specs.Prelude.{◌≡◌, ◌≤◌, ◌<◌, length};
 ghost use Rattle.sheet.specs.Packed.{net_in};
 ghost use Rattle.bits.specs.Compiled.{net_words};
 ghost use Rattle.indexed.specs.Limited.{Limited};
 
-use bits::{Bitset, Played, Position, Turn};
+use bits::{Played, Position, Turn};
+use lists::{HASH_START, Sheet};
 use std::io;
 
 // Where a walk stands.
@@ -18,75 +19,6 @@ use std::io;
 struct Stand {
     at: Position,
     hash: u64,
-}
-
-// The set with i.
-fn with(s: Bitset, i: u64) -> Bitset
-    requires { i < 256 }
-{
-    if i < 64 {
-        return Bitset {
-            a: words::with_bit(s.a, i),
-            b: s.b,
-            c: s.c,
-            d: s.d,
-        };
-    }
-    if i < 128 {
-        return Bitset {
-            a: s.a,
-            b: words::with_bit(s.b, i - 64),
-            c: s.c,
-            d: s.d,
-        };
-    }
-    if i < 192 {
-        return Bitset {
-            a: s.a,
-            b: s.b,
-            c: words::with_bit(s.c, i - 128),
-            d: s.d,
-        };
-    }
-    Bitset {
-        a: s.a,
-        b: s.b,
-        c: s.c,
-        d: words::with_bit(s.d, i - 192),
-    }
-}
-
-// The marking with the token of a row, if it is a `mark` row with one.
-fn marked(m: Bitset, row: u64) -> Bitset {
-    if row % 16 != 1 {
-        return m;
-    }
-    if row / 0x10_0000 % 0x20_0000 != 1_000_001 {
-        return m;
-    }
-    with(m, row / 4096 % 256)
-}
-
-// The start: the marking of the first n rows.
-fn start(rows: &[u64], n: usize) -> Bitset
-    requires { n ≤ length rows.now }
-{
-    let mut m = Bitset {
-        a: 0,
-        b: 0,
-        c: 0,
-        d: 0,
-    };
-    let mut i = 0;
-    while i < n {
-        m = marked(m, rows[i]);
-        i += 1;
-    }
-    m
-}
-
-fn number(b: bool) -> u64 {
-    if b { 1 } else { 0 }
 }
 
 fn side(turn: Turn) -> u64 {
@@ -103,7 +35,9 @@ fn hashed_moves(c: &[u64], p: Position, h: u64) -> u64
 {
     let mut list = [0u64; 256];
     let n = bits::list_moves(c, p, &mut list);
-    lists::hashed_front(lists::hashed(h, n as u64), &list, n)
+    list.iter()
+        .take(n)
+        .fold(lists::hashed(h, n as u64), |sum, t| lists::hashed(sum, *t))
 }
 
 // Of each transition its deficit, and whether it is a move.
@@ -111,11 +45,9 @@ fn hashed_deficits(c: &[u64], transitions: u64, p: Position, h: u64) -> u64
     requires { (transitions ≤ 256) × (length c.now ≡ net_words) }
 {
     let mut sum = h;
-    let mut t = 0;
-    while t < transitions {
+    for t in 0..transitions {
         sum = lists::hashed(sum, bits::deficit(c, p, t));
-        sum = lists::hashed(sum, number(bits::has_move(c, p, t)));
-        t += 1;
+        sum = lists::hashed(sum, u64::from(bits::has_move(c, p, t)));
     }
     sum
 }
@@ -124,18 +56,11 @@ fn hashed_deficits(c: &[u64], transitions: u64, p: Position, h: u64) -> u64
 fn seen(c: &[u64], transitions: u64, p: Position, h: u64) -> u64
     requires { (transitions ≤ 256) × (length c.now ≡ net_words) }
 {
-    let mut sum = lists::hashed(h, p.m0);
-    sum = lists::hashed(sum, p.m1);
-    sum = lists::hashed(sum, p.m2);
-    sum = lists::hashed(sum, p.m3);
-    sum = lists::hashed(sum, p.e0);
-    sum = lists::hashed(sum, p.e1);
-    sum = lists::hashed(sum, p.e2);
-    sum = lists::hashed(sum, p.e3);
-    sum = hashed_moves(c, p, sum);
+    let words = [p.m0, p.m1, p.m2, p.m3, p.e0, p.e1, p.e2, p.e3];
+    let mut sum = hashed_moves(c, p, lists::hashed_words(h, &words));
     sum = lists::hashed(sum, side(bits::mover(c, p)));
-    sum = lists::hashed(sum, number(bits::over(c, p)));
-    sum = lists::hashed(sum, lists::float_bits(bits::score(c, p)));
+    sum = lists::hashed(sum, u64::from(bits::over(c, p)));
+    sum = lists::hashed(sum, whole::value_bits(bits::score(c, p)));
     hashed_deficits(c, transitions, p, sum)
 }
 
@@ -171,16 +96,11 @@ fn step(c: &[u64], transitions: u64, p: Position, t: u64, h: u64) -> Stand
 fn follow(c: &[u64], transitions: u64, first: Position, moves: &[u8]) -> u64
     requires { (transitions ≤ 256) × (length c.now ≡ net_words) }
 {
-    let mut w = arrived(c, transitions, first, 0xCBF2_9CE4_8422_2325);
-    let mut i = 0;
-    while i < moves.len() {
-        if moves.len() - i < 2 {
-            return w.hash;
-        }
+    let mut w = arrived(c, transitions, first, HASH_START);
+    for pair in moves.chunks_exact(2) {
         let p = resumed(c, w.at, first);
-        let t = lists::byte(moves[i], moves[i + 1]) as u64;
+        let t = u64::from(lists::byte(pair[0], pair[1]));
         w = step(c, transitions, p, t, w.hash);
-        i += 2;
     }
     w.hash
 }
@@ -200,20 +120,15 @@ fn walk(
     if rows.len() < n {
         return 0;
     }
-    lists::clear(c);
-    lists::clear(cells);
+    c.fill(0);
+    cells.fill(0);
     let net = indexed::Rows {
         words: &rows[..n],
         transitions: transitions as usize,
         places: places as usize,
     };
     indexed::compile_walk(net, c, cells);
-    follow(c, transitions, bits::fresh(c, start(rows, n)), moves)
-}
-
-fn show(rt: &impl Print, n: u64) -> io::Result<()> {
-    rt.print(n)?;
-    rt.write_all(b" ")
+    follow(c, transitions, bits::fresh(c, opening::start(rows, n)), moves)
 }
 
 // Reads a sheet, walks its net, and writes the line.
@@ -230,53 +145,27 @@ fn answer(
             let transitions = size.transitions as u64;
             let places = size.places as u64;
             let h = walk(rows, size.rows, transitions, places, moves, c, cells);
-            show(rt, transitions)?;
-            show(rt, places)?;
-            print!(rt; "{h:016x}")?;
+            println!(rt; "{transitions} {places} {h:016x}")
         }
-        Err(_) => rt.write_all(b"refused")?,
+        Err(_) => println!(rt; "refused"),
     }
-    rt.write_all(b"\n")
 }
 
-// A line of the list: a walk, or a part of a sheet of n bytes; how many bytes the sheet has then.
-fn line(
-    rt: &impl Print,
-    sheet: &mut [u8],
-    n: usize,
-    line: &[u8],
-    rows: &mut [u64; 6560],
-    c: &mut [u64; bits::NET_WORDS],
-    cells: &mut [u64; 65536],
-) -> io::Result<usize>
-    requires { n ≤ length sheet.old }
-    ensures { IfOk result (λ to. to ≤ length sheet.old) }
-{
-    if line.len() == 0 {
-        return Ok(n);
-    }
-    if line[0] == b'w' {
-        answer(rt, &sheet[..n], rows, &line[1..], c, cells)?;
-        return Ok(n);
-    }
-    Ok(lists::build(sheet, n, line))
-}
-
-// Goes through the list, line by line.
+// Goes through the list, line by line: a walk, or a line that builds the sheet.
 fn run(
     rt: &impl Print,
     list: &[u8],
-    sheet: &mut [u8],
+    bytes: &mut [u8],
     rows: &mut [u64; 6560],
     c: &mut [u64; bits::NET_WORDS],
     cells: &mut [u64; 65536],
 ) -> io::Result<()> {
-    let mut n = 0;
-    let mut at = 0;
-    while at < list.len() {
-        let end = lists::line_end(list, at);
-        n = line(rt, sheet, n, &list[at..end], rows, c, cells)?;
-        at = end + 1;
+    let mut sheet = Sheet::new(bytes);
+    for line in list.split(|b| *b == b'\n') {
+        match line.split_first() {
+            Some((b'w', moves)) => answer(rt, sheet.text(), rows, moves, c, cells)?,
+            _ => sheet.build(line),
+        }
     }
     Ok(())
 }
