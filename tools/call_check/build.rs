@@ -30,15 +30,28 @@ fn plain(root: &Path) -> String {
     let (_, below) = list.lines().find(|l| of(l)).and_then(|l| l.split_once(':')).expect("keymove_c in crates.txt");
     let names: Vec<&str> = below.split_whitespace().chain(["keymove_c"]).collect();
     let module = |name: &&str| {
-        let text = read(root.join("crates").join(name).join("src/lib.rt"));
-        format!("pub mod {name} {{\n{}}}\n", rust(&text, &names))
+        let text = whole(&root.join("crates").join(name).join("src"), "lib");
+        format!("pub mod {name} {{\n{}}}\n", rust(&text, name, &names))
     };
     names.iter().map(module).collect()
 }
 
-/// A crate's text as Rust: no `ghost use`, `requires` or `ensures`, and no attribute that is the
-/// prover's; the crates are modules beside each other.
-fn rust(text: &str, names: &[&str]) -> String {
+/// The text of a file of a crate, with each module that it names in its place.
+fn whole(folder: &Path, file: &str) -> String {
+    let mut out = String::new();
+    for line in read(folder.join(format!("{file}.rt"))).lines() {
+        let named = line.strip_prefix("pub ").unwrap_or(line).strip_prefix("mod ").and_then(|l| l.strip_suffix(';'));
+        match named {
+            Some(name) => out += &format!("{} {{\n{}}}\n", line.trim_end_matches(';'), whole(folder, name)),
+            None => out += &format!("{line}\n"),
+        }
+    }
+    out
+}
+
+/// A crate's text as Rust: no `ghost` item or field, no `requires` or `ensures`, and no attribute or derive
+/// that is the prover's; the crates are modules beside each other.
+fn rust(text: &str, own: &str, names: &[&str]) -> String {
     let mut out = String::new();
     let mut lines = text.lines();
     while let Some(line) = lines.next() {
@@ -48,13 +61,13 @@ fn rust(text: &str, names: &[&str]) -> String {
             while !last.ends_with(';') {
                 last = lines.next().expect("the end of a `ghost use`");
             }
-        } else if words.starts_with("requires ") || words.starts_with("ensures ") {
+        } else if ["requires ", "ensures ", "ghost ", "pub ghost "].iter().any(|w| words.starts_with(w)) {
             let mut open = depth(line);
             while open != 0 {
                 open += depth(lines.next().expect("the end of a clause"));
             }
         } else if !words.starts_with("#![tactic(") && !words.starts_with("#[tactic(") && !words.starts_with("#[cycle(") {
-            out += &paths(line, names).replace("std::num::truncating_f64_to_i64", "crate::call::whole_part");
+            out += &paths(line, own, names).replace(", Drop)]", ")]").replace("#[derive(Drop)]", "");
             out += "\n";
         }
     }
@@ -65,18 +78,23 @@ fn depth(line: &str) -> i32 {
     line.matches('{').count() as i32 - line.matches('}').count() as i32
 }
 
-/// The line with `crate::call::plain::` before each path that begins with a crate's name.
-fn paths(line: &str, names: &[&str]) -> String {
+/// The line with `crate::call::plain::` before each path that begins with a crate's name, or with `crate` for its own.
+fn paths(line: &str, own: &str, names: &[&str]) -> String {
     let mut out = String::new();
     let mut rest = line;
     while let Some(at) = rest.find("::") {
         let start = rest[..at].rfind(|c: char| !c.is_alphanumeric() && c != '_').map_or(0, |i| i + 1);
         let inner = rest[..start].ends_with("::") || start == 0 && out.ends_with("::");
         out += &rest[..start];
-        if !inner && names.contains(&&rest[start..at]) {
+        let word = &rest[start..at];
+        if !inner && names.contains(&word) {
             out += "crate::call::plain::";
         }
-        out += &rest[start..at + 2];
+        out += if inner || word != "crate" { word } else { "crate::call::plain::" };
+        if !inner && word == "crate" {
+            out += own;
+        }
+        out += "::";
         rest = &rest[at + 2..];
     }
     out + rest

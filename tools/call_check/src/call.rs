@@ -9,12 +9,6 @@ pub mod plain {
     include!(concat!(env!("OUT_DIR"), "/plain.rs"));
 }
 
-/// The one function of Rattle's own library that the sources use.
-#[cfg(feature = "plain")]
-pub fn whole_part(x: f64) -> i64 {
-    x as i64
-}
-
 extern "C" {
     fn keymove_choose(
         sheet: *const u8,
