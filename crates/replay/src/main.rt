@@ -171,8 +171,31 @@ fn step(totals: &mut Totals, line: &[u8], sheet: &mut Sheet, words: &mut [u64], 
     totals.hash = lists::hashed_bytes(totals.hash, line);
 }
 
-// Goes through the list, line by line.
-fn run(list: &[u8], bytes: &mut [u8], words: &mut [u64], tags: &mut [u8]) -> Totals {
+// Goes through lines of the list.
+fn steps(totals: &mut Totals, lines: &[u8], sheet: &mut Sheet, words: &mut [u64], tags: &mut [u8]) {
+    for line in lines.split_inclusive(|b| *b == b'\n') {
+        step(totals, line, sheet, words, tags);
+    }
+}
+
+// How many bytes the lines have that are ended.
+fn ended(part: &[u8]) -> usize
+    ensures { result ≤ length part.now }
+{
+    match part.iter().rposition(|b| *b == b'\n') {
+        Some(last) => last + 1,
+        None => 0,
+    }
+}
+
+// Reads the list part by part, and goes through the lines that are ended. No list takes 64 turns.
+fn all<R: Read>(
+    reader: &mut R,
+    part: &mut [u8],
+    bytes: &mut [u8],
+    words: &mut [u64],
+    tags: &mut [u8],
+) -> io::Result<Totals> {
     let mut sheet = Sheet::new(bytes);
     let mut totals = Totals {
         sheets: 0,
@@ -181,10 +204,15 @@ fn run(list: &[u8], bytes: &mut [u8], words: &mut [u64], tags: &mut [u8]) -> Tot
         whole: false,
         hash: HASH_START,
     };
-    for line in list.split_inclusive(|b| *b == b'\n') {
-        step(&mut totals, line, &mut sheet, words, tags);
+    let mut left = 0;
+    for _ in 0..64 {
+        let n = left + streams::read_full(reader, &mut part[left..])?;
+        let end = ended(&part[..n]);
+        steps(&mut totals, &part[..end], &mut sheet, words, tags);
+        part.rotate_left(end);
+        left = n - end;
     }
-    totals
+    Ok(totals)
 }
 
 fn show(rt: &impl Print, totals: Totals) -> io::Result<()> {
@@ -194,11 +222,16 @@ fn show(rt: &impl Print, totals: Totals) -> io::Result<()> {
 }
 
 fn main(rt: HostRuntime) -> io::Result<()> {
-    let mut list = Vec::new(rt.alloc());
-    rt.stdin().read_to_end(&mut list)?;
+    let mut part = [0u8; 65536];
     let mut sheet = [0u8; 70000];
     let mut words = [0u64; 7200];
     let mut tags = [0u8; 1100];
-    let totals = run(&list, &mut sheet, &mut words, &mut tags);
+    let totals = all(
+        &mut rt.stdin(),
+        &mut part,
+        &mut sheet,
+        &mut words,
+        &mut tags,
+    )?;
     show(&rt, totals)
 }
