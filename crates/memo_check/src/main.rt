@@ -49,8 +49,8 @@ fn hashed_got(h: u64, g: memo::Got) -> u64 {
     match g {
         memo::Got::Hit(e) => lists::hashed(
             lists::hashed(
-                lists::hashed(h, lists::float_bits(e.lo)),
-                lists::float_bits(e.hi),
+                lists::hashed(h, whole::value_bits(e.lo)),
+                whole::value_bits(e.hi),
             ),
             e.best,
         ),
@@ -447,8 +447,8 @@ fn print_got(rt: &impl Print, g: memo::Got) -> io::Result<()> {
     match g {
         memo::Got::Hit(e) => {
             rt.write_all(b"get ")?;
-            print(rt, lists::float_bits(e.lo), b" ")?;
-            print(rt, lists::float_bits(e.hi), b" ")?;
+            print(rt, whole::value_bits(e.lo), b" ")?;
+            print(rt, whole::value_bits(e.hi), b" ")?;
             print(rt, e.best, b"\n")
         }
         memo::Got::Miss => rt.write_all(b"get -\n"),
