@@ -16,7 +16,7 @@ use std::io::Read;
 // The first line of each report.
 const HEADING: &[u8] = b"answer move value nodes\n";
 
-// A case: the settings, the lengths of the memory, and what the list says of it.
+// A case: the settings, the lengths of the memory, and the end of its line, an answer and a hash.
 #[derive(Clone, Copy)]
 struct Case<'a> {
     budget: u64,
@@ -26,8 +26,7 @@ struct Case<'a> {
     chain: &'a [u8],
     words: usize,
     tags: usize,
-    answer: &'a [u8],
-    hash: u64,
+    end: &'a [u8],
 }
 
 // The number of a decimal text.
@@ -37,11 +36,6 @@ fn number(text: &[u8]) -> Option<u64> {
 
 fn length(text: &[u8]) -> Option<usize> {
     std::str::from_utf8(text).ok()?.parse::<usize>().ok()
-}
-
-// The number of a hexadecimal text.
-fn hexadecimal(text: &[u8]) -> Option<u64> {
-    u64::from_str_radix(std::str::from_utf8(text).ok()?, 16).ok()
 }
 
 // The case of a line.
@@ -54,9 +48,7 @@ fn read_case(line: &[u8]) -> Option<Case<'_>> {
     let chain = fields.next()?;
     let words = length(fields.next()?)?;
     let tags = length(fields.next()?)?;
-    let mut ends = fields.next()?.rsplitn(2, |b| *b == b' ');
-    let hash = hexadecimal(ends.next()?)?;
-    let answer = ends.next()?;
+    let end = fields.next()?;
     Some(Case {
         budget,
         entries,
@@ -65,8 +57,7 @@ fn read_case(line: &[u8]) -> Option<Case<'_>> {
         chain,
         words,
         tags,
-        answer,
-        hash,
+        end,
     })
 }
 
@@ -81,15 +72,20 @@ fn pieces(chain: &[u8]) -> ArrayVec<u8, 128> {
     all
 }
 
-// Whether the second line of an answer's report is this.
-fn reads(answer: Answer, line: &[u8]) -> bool {
-    let mut text = ArrayString::<128>::new();
-    let _ = write!(text, "{}", Report(answer));
-    let shown = text.as_str().as_bytes();
-    shown
-        .strip_prefix(HEADING)
-        .and_then(|l| l.strip_suffix(b"\n"))
-        == Some(line)
+// Whether the end of a line is an answer, as the second line of its report, a space and a hash.
+fn ends_in(end: &[u8], answer: Answer, hash: u64) -> bool {
+    let mut text = ArrayString::<160>::new();
+    if write!(text, "{}{hash:016x}", Report(answer)).is_err() {
+        return false;
+    }
+    let Some(shown) = text.as_str().as_bytes().strip_prefix(HEADING) else {
+        return false;
+    };
+    shown.len() == end.len()
+        && shown
+            .iter()
+            .zip(end)
+            .all(|(b, x)| *b == *x || (*b == b'\n' && *x == b' '))
 }
 
 // Whether a case on a sheet gives what the list says, on memory that is lent.
@@ -112,7 +108,7 @@ fn holds(case: Case, sheet: &[u8], words: &mut [u64], tags: &mut [u8]) -> bool {
         tags,
     );
     let hash = lists::hashed_bytes(lists::hashed_words(HASH_START, words), tags);
-    reads(answer, case.answer) && hash == case.hash
+    ends_in(case.end, answer, hash)
 }
 
 // Whether the case of a line holds; a line that is no case, or asks for more memory than there is, does not.
@@ -146,8 +142,8 @@ impl Totals {
     fn closes(&self, line: &[u8]) -> bool {
         let mut text = ArrayString::<128>::new();
         let (sheets, cases, hash) = (self.sheets, self.cases, self.hash);
-        let _ = write!(text, "e {sheets} {cases} {hash:016x}");
-        text.as_str().as_bytes() == line
+        let is_written = write!(text, "e {sheets} {cases} {hash:016x}").is_ok();
+        is_written && text.as_str().as_bytes() == line
     }
 }
 

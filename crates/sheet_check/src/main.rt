@@ -4,12 +4,12 @@
 
 #![tactic(auto)]
 
-use lists::Sheet;
+use lists::{HASH_START, Sheet};
 use std::io;
 
 // FNV-1a over words.
 fn mixed(rows: &[u64]) -> u64 {
-    let mut h: u64 = 14695981039346656037;
+    let mut h = HASH_START;
     for row in rows {
         h = (h ^ *row).wrapping_mul(1099511628211);
     }

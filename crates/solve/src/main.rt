@@ -3,8 +3,6 @@
 
 #![tactic(auto)]
 
-ghost use Rattle.std.specs.Prelude.{◌≤◌, length};
-
 use report::Report;
 use rules::{Answer, Refusal};
 use std::env::{Env, FillError};
