@@ -35,9 +35,7 @@ fn hashed_moves(c: &[u64], p: Position, h: u64) -> u64
 {
     let mut list = [0u64; 256];
     let n = bits::list_moves(c, p, &mut list);
-    list.iter()
-        .take(n)
-        .fold(lists::hashed(h, n as u64), |sum, t| lists::hashed(sum, *t))
+    list.iter().take(n).fold(lists::hashed(h, n as u64), |sum, t| lists::hashed(sum, *t))
 }
 
 // Of each transition its deficit, and whether it is a move.
@@ -128,7 +126,12 @@ fn walk(
         places: places as usize,
     };
     indexed::compile_walk(net, c, cells);
-    follow(c, transitions, bits::fresh(c, opening::start(rows, n)), moves)
+    follow(
+        c,
+        transitions,
+        bits::fresh(c, opening::start(rows, n)),
+        moves,
+    )
 }
 
 // Reads a sheet, walks its net, and writes the line.
