@@ -8,7 +8,7 @@ use std::time::Instant;
 
 extern "C" {
     fn memo_gets(
-        words: *const u64, words_len: usize, tags: *const u8, tags_len: usize, dict: *const u64, dict_len: usize,
+        words: *mut u64, words_len: usize, tags: *mut u8, tags_len: usize, dict: *mut u64, dict_len: usize,
         n: usize, entries: usize, places: usize, compact: bool, keys: *const u64, keys_len: usize,
     ) -> u64;
     fn memo_stores(
@@ -101,7 +101,7 @@ fn compare(kw: usize, compact: bool, pool: u64, name: &str) {
         times[2].push(t);
         let (t, b) = ns(count, &mut || unsafe {
             memo_gets(
-                words.as_ptr(), words.len(), tags.as_ptr(), tags.len(), dict.as_ptr(), dict.len(),
+                words.as_mut_ptr(), words.len(), tags.as_mut_ptr(), tags.len(), dict.as_mut_ptr(), dict.len(),
                 n, ENTRIES, places, compact, all.as_ptr(), all.len(),
             )
         });

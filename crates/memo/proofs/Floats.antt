@@ -8,7 +8,7 @@ use lib.Ieee.{Float, nan, inf, fin, binary64, of_bits, lt, le, eq, is_nan, nan_b
 use lib.Ieee.Bits.{nan_bits_is, nan_bits_above}
 use Rattle.words.proofs.Lists.{not_both}
 use Rattle.rules.specs.Codes.{float_number}
-use Rattle.memo.specs.Sized.{Real}
+use Rattle.memo.specs.Facts.{Real}
 
 -- no order with a NaN
 le_nan : (x : Float) → le x nan ≡ false

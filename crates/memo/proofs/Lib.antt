@@ -4,7 +4,7 @@ pub mod Looks
 pub mod Replace
 pub mod Floats
 pub mod Reading
-pub mod Dictionary
+pub mod Entering
 pub mod Writing
 pub mod Storing
 pub mod Games

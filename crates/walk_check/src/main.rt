@@ -5,14 +5,15 @@
 
 #![tactic(auto)]
 
-ghost use Rattle.std.specs.Prelude.{◌≡◌, ◌≤◌, ◌<◌, length};
-ghost use Rattle.sheet.specs.Packed.{net_in};
-ghost use Rattle.bits.specs.Compiled.{net_words};
-ghost use Rattle.indexed.specs.Limited.{Limited};
+ghost use Rattle.std.specs.Prelude.{◌≤◌};
 
-use bits::{Played, Position, Turn};
+use bits::{Bitset, Halt, NET_WORDS, NetWords, Position, Side};
+use indexed::Rows;
 use lists::{HASH_START, Sheet};
 use std::io;
+
+// How many packed cells a net has.
+const CELLS: usize = 65536;
 
 // Where a walk stands.
 #[derive(Clone, Copy)]
@@ -21,117 +22,108 @@ struct Stand {
     hash: u64,
 }
 
-fn side(turn: Turn) -> u64 {
-    match turn {
-        Turn::Mixed => 0,
-        Turn::Max => 1,
-        Turn::Min => 2,
-    }
-}
-
-// The number of moves, and each.
-fn hashed_moves(c: &[u64], p: Position, h: u64) -> u64
-    requires { length c.now ≡ net_words }
-{
-    let mut list = [0u64; 256];
-    let n = bits::list_moves(c, p, &mut list);
-    list.iter().take(n).fold(lists::hashed(h, n as u64), |sum, t| lists::hashed(sum, *t))
-}
-
-// Of each transition its deficit, and whether it is a move.
-fn hashed_deficits(c: &[u64], transitions: u64, p: Position, h: u64) -> u64
-    requires { (transitions ≤ 256) × (length c.now ≡ net_words) }
-{
-    let mut sum = h;
-    for t in 0..transitions {
-        sum = lists::hashed(sum, bits::deficit(c, p, t));
-        sum = lists::hashed(sum, u64::from(bits::has_move(c, p, t)));
-    }
-    sum
-}
-
-// What is seen of a position: its marking, its tracked set, its moves, the side to move, whether it is over, its score, and the deficits.
-fn seen(c: &[u64], transitions: u64, p: Position, h: u64) -> u64
-    requires { (transitions ≤ 256) × (length c.now ≡ net_words) }
-{
-    let words = [p.m0, p.m1, p.m2, p.m3, p.e0, p.e1, p.e2, p.e3];
-    let mut sum = hashed_moves(c, p, lists::hashed_words(h, &words));
-    sum = lists::hashed(sum, side(bits::mover(c, p)));
-    sum = lists::hashed(sum, u64::from(bits::over(c, p)));
-    sum = lists::hashed(sum, whole::value_bits(bits::score(c, p)));
-    hashed_deficits(c, transitions, p, sum)
-}
-
-// The walk at a position, its hash so far h.
-fn arrived(c: &[u64], transitions: u64, p: Position, h: u64) -> Stand
-    requires { (transitions ≤ 256) × (length c.now ≡ net_words) }
-{
-    Stand {
-        at: p,
-        hash: seen(c, transitions, p, h),
-    }
-}
-
-// The position, or the start where no move is left.
-fn resumed(c: &[u64], p: Position, first: Position) -> Position
-    requires { length c.now ≡ net_words }
-{
-    if bits::over(c, p) { first } else { p }
-}
-
-// Plays move t.
-fn step(c: &[u64], transitions: u64, p: Position, t: u64, h: u64) -> Stand
-    requires { (transitions ≤ 256) × (t < 256) × (length c.now ≡ net_words) }
-{
-    match bits::play(c, p, t) {
-        Played::To(q) => arrived(c, transitions, q, lists::hashed(h, 0)),
-        Played::Spilled => arrived(c, transitions, p, lists::hashed(h, 1)),
-        Played::Endless => arrived(c, transitions, p, lists::hashed(h, 2)),
-    }
-}
-
-// The hash of a walk along the moves.
-fn follow(c: &[u64], transitions: u64, first: Position, moves: &[u8]) -> u64
-    requires { (transitions ≤ 256) × (length c.now ≡ net_words) }
-{
-    let mut w = arrived(c, transitions, first, HASH_START);
-    for pair in moves.chunks_exact(2) {
-        let p = resumed(c, w.at, first);
-        let t = u64::from(lists::byte(pair[0], pair[1]));
-        w = step(c, transitions, p, t, w.hash);
-    }
-    w.hash
-}
-
-// Compiles the net of the first n rows, and walks it.
-fn walk(
-    rows: &[u64],
-    n: usize,
+// A net, and how many transitions it has.
+#[derive(Clone, Copy)]
+struct Walker<'a> {
+    net: NetWords<'a>,
     transitions: u64,
-    places: u64,
-    moves: &[u8],
-    c: &mut [u64],
-    cells: &mut [u64],
-) -> u64
-    requires { (transitions ≤ 256) × Limited (net_in transitions places n rows.now) × (length c.old ≡ net_words) × (length cells.old ≡ 65536) }
-{
-    if rows.len() < n {
-        return 0;
+    ghost few: { transitions ≤ 256 },
+}
+
+// The words of two sets.
+fn words_of(m: Bitset, e: Bitset) -> [u64; 8] {
+    [m.a, m.b, m.c, m.d, e.a, e.b, e.c, e.d]
+}
+
+impl<'a> Walker<'a> {
+    ghost use Rattle.std.specs.Prelude.{◌<◌};
+
+    // A hash with the number of moves, and each.
+    fn hashed_moves(self, p: Position, h: u64) -> u64 {
+        let moves = self.net.moves(p);
+        moves.iter().fold(
+            lists::hashed(h, moves.len()),
+            |sum, t| lists::hashed(sum, t),
+        )
     }
+
+    // A hash with the deficit of each transition, and whether it is a move.
+    fn hashed_deficits(self, p: Position, h: u64) -> u64 {
+        let mut sum = h;
+        for t in 0..self.transitions {
+            sum = lists::hashed(sum, self.net.deficit(p, t).unwrap_or(NO_DEFICIT));
+            sum = lists::hashed(sum, u64::from(self.net.has_move(p, t)));
+        }
+        sum
+    }
+
+    // What is seen of a position: its marking, its tracked set, its moves, the side to move, whether it is over, its score, and the deficits.
+    fn seen(self, p: Position, h: u64) -> u64 {
+        let words = words_of(p.marking, p.enabled);
+        let mut sum = self.hashed_moves(p, lists::hashed_words(h, &words));
+        sum = lists::hashed(sum, side_number(self.net.mover(p)));
+        sum = lists::hashed(sum, u64::from(self.net.over(p)));
+        sum = lists::hashed(sum, whole::value_bits(self.net.score(p)));
+        self.hashed_deficits(p, sum)
+    }
+
+    // The walk at a position, its hash so far h.
+    fn arrived(self, p: Position, h: u64) -> Stand {
+        Stand {
+            at: p,
+            hash: self.seen(p, h),
+        }
+    }
+
+    // Plays move t, from the first position where no move is left.
+    fn step(self, from: Stand, first: Position, t: u64) -> Stand
+        requires { t < 256 }
+    {
+        let p = if self.net.over(from.at) {
+            first
+        } else {
+            from.at
+        };
+        match self.net.play(p, t) {
+            Ok(q) => self.arrived(q, lists::hashed(from.hash, 0)),
+            Err(Halt::Spilled) => self.arrived(p, lists::hashed(from.hash, 1)),
+            Err(Halt::Endless) => self.arrived(p, lists::hashed(from.hash, 2)),
+        }
+    }
+
+    // The hash of a walk along the moves.
+    fn follow(self, first: Position, moves: &[u8]) -> u64 {
+        let mut w = self.arrived(first, HASH_START);
+        for pair in moves.chunks_exact(2) {
+            w = self.step(w, first, u64::from(lists::byte(pair[0], pair[1])));
+        }
+        w.hash
+    }
+}
+
+// What is hashed for the deficit of a transition that no marking enables.
+const NO_DEFICIT: u64 = 0xFFFF_FFFF;
+
+// What is hashed for the side to move.
+fn side_number(side: Option<Side>) -> u64 {
+    match side {
+        None => 0,
+        Some(Side::Max) => 1,
+        Some(Side::Min) => 2,
+    }
+}
+
+// Compiles a net, and walks it.
+fn walk(rows: Rows, moves: &[u8], c: &mut [u64; NET_WORDS], cells: &mut [u64; CELLS]) -> u64 {
     c.fill(0);
     cells.fill(0);
-    let net = indexed::Rows {
-        words: &rows[..n],
-        transitions: transitions as usize,
-        places: places as usize,
+    indexed::compile_walk(rows, c, cells);
+    let net = NetWords::new(c);
+    let walker = Walker {
+        net,
+        transitions: rows.transitions as u64,
     };
-    indexed::compile_walk(net, c, cells);
-    follow(
-        c,
-        transitions,
-        bits::fresh(c, opening::start(rows, n)),
-        moves,
-    )
+    walker.follow(net.fresh(opening::start(rows.words)), moves)
 }
 
 // Reads a sheet, walks its net, and writes the line.
@@ -140,15 +132,18 @@ fn answer(
     text: &[u8],
     rows: &mut [u64; 6560],
     moves: &[u8],
-    c: &mut [u64; bits::NET_WORDS],
-    cells: &mut [u64; 65536],
+    c: &mut [u64; NET_WORDS],
+    cells: &mut [u64; CELLS],
 ) -> io::Result<()> {
     match sheet::read_sheet(text, rows) {
         Ok(size) => {
-            let transitions = size.transitions as u64;
-            let places = size.places as u64;
-            let h = walk(rows, size.rows, transitions, places, moves, c, cells);
-            println!(rt; "{transitions} {places} {h:016x}")
+            let net = Rows {
+                words: &rows[..size.rows],
+                transitions: size.transitions,
+                places: size.places,
+            };
+            let h = walk(net, moves, c, cells);
+            println!(rt; "{} {} {h:016x}", size.transitions, size.places)
         }
         Err(_) => println!(rt; "refused"),
     }
@@ -160,8 +155,8 @@ fn run(
     list: &[u8],
     bytes: &mut [u8],
     rows: &mut [u64; 6560],
-    c: &mut [u64; bits::NET_WORDS],
-    cells: &mut [u64; 65536],
+    c: &mut [u64; NET_WORDS],
+    cells: &mut [u64; CELLS],
 ) -> io::Result<()> {
     let mut sheet = Sheet::new(bytes);
     for line in list.split(|b| *b == b'\n') {
@@ -177,8 +172,8 @@ fn main(rt: HostRuntime) -> io::Result<()> {
     let mut list = [0u8; 524288];
     let mut sheet = [0u8; 70000];
     let mut rows = [0u64; 6560];
-    let mut c = [0u64; bits::NET_WORDS];
-    let mut cells = [0u64; 65536];
+    let mut c = [0u64; NET_WORDS];
+    let mut cells = [0u64; CELLS];
     let n = streams::read_full(&mut rt.stdin(), &mut list)?;
     run(&rt, &list[..n], &mut sheet, &mut rows, &mut c, &mut cells)
 }

@@ -1,0 +1,197 @@
+// Replays of long sequences on tables of each kind, by their hashes.
+
+ghost use Rattle.std.specs.Prelude.{◌≤◌, ◌<◌};
+
+use crate::lent::{Lent, RANGE, number, store, value, with_memo};
+use memo::{Entry, Interval, Memo, Table};
+use std::io;
+use words::Bitset;
+
+// Where a replay stands.
+#[derive(Clone, Copy)]
+struct State {
+    seed: u64,
+    hash: u64,
+}
+
+// The next number of a sequence (xorshift, 64 bits).
+fn next(s: u64) -> u64 {
+    let a = s ^ (s << 13);
+    let b = a ^ (a >> 7);
+    b ^ (b << 17)
+}
+
+// Word j of key number at, 0 past the table's key words.
+fn key_word(at: u64, j: u64, count: usize) -> u64
+    requires { (at < 4096) × (j < 4) }
+{
+    if (j as usize) < count {
+        words::wrapping_mul64(at * 4 + j + 1, 0xD6E8_FEB8_6659_FD93)
+    } else {
+        0
+    }
+}
+
+// Key number at.
+fn key(at: u64, count: usize) -> Bitset
+    requires { at < 4096 }
+{
+    Bitset {
+        a: key_word(at, 0, count),
+        b: key_word(at, 1, count),
+        c: key_word(at, 2, count),
+        d: key_word(at, 3, count),
+    }
+}
+
+// A hash with what a get answers.
+fn hashed_got(hash: u64, got: Option<Entry>) -> u64 {
+    match got {
+        Some(entry) => {
+            let lo = whole::value_bits(entry.bounds.lo);
+            let hi = whole::value_bits(entry.bounds.hi);
+            lists::hashed_words(hash, &[lo, hi, number(entry.best)])
+        }
+        None => lists::hashed(hash, 7),
+    }
+}
+
+// A hash with what a get of key number at answers, where every move is one.
+fn hashed_get(hash: u64, memo: &Memo, at: u64) -> u64
+    requires { at < 4096 }
+{
+    let moves = Bitset {
+        a: u64::MAX,
+        b: u64::MAX,
+        c: u64::MAX,
+        d: u64::MAX,
+    };
+    let got = memo.get(RANGE, key(at, memo.table.key_words), moves);
+    hashed_got(hash, got)
+}
+
+// The best move by a number of the sequence: one of 256, or none.
+fn best(r: u64) -> Option<u64> {
+    let t = r % 257;
+    (t < 256).then_some(t)
+}
+
+// One turn: a get of the key drawn, a store by two more numbers, or a new generation.
+fn turn(memo: &mut Memo, state: State, pool: u64, span: u64) -> State
+    requires { (0 < pool) × (pool ≤ 4096) × (0 < span) × (span ≤ 1000001) }
+{
+    let a = next(state.seed);
+    let b = next(a);
+    let c = next(b);
+    let kind = b % 64;
+    let at = a / 64 % pool;
+    if kind < 24 {
+        let hash = hashed_get(state.hash, memo, at);
+        return State { seed: c, hash };
+    }
+    if kind == 24 {
+        memo.generation = memo.generation % 127 + 1;
+    } else {
+        let bounds = Interval {
+            lo: value(b / 64, span),
+            hi: value(c / 64, span),
+        };
+        let best = best(a / 0x1_0000_0000);
+        let key = key(at, memo.table.key_words);
+        store(memo, key, Entry { bounds, best }, c % 0x10000);
+    }
+    State {
+        seed: c,
+        hash: state.hash,
+    }
+}
+
+// The size of values: a compact table gets few bounds at first, and then more than its dictionary holds.
+fn span(compact: bool, first: bool) -> u64
+    ensures { (0 < result) × (result ≤ 1000001) }
+{
+    if !compact {
+        1000001
+    } else if first {
+        9
+    } else {
+        300
+    }
+}
+
+// So many turns; the hash of what the gets answered.
+fn turns(memo: &mut Memo, entries: u64, seed: u64) -> u64
+    requires { entries ≤ 1024 }
+{
+    let compact = memo.table.compact;
+    let count = 400 + 24 * entries;
+    let mut state = State {
+        seed,
+        hash: 0xCBF2_9CE4_8422_2325,
+    };
+    for i in 0..count {
+        let span = span(compact, i * 2 < count);
+        state = turn(memo, state, 2 * entries + 1, span);
+    }
+    state.hash
+}
+
+// A hash with the bytes of a slice.
+fn hashed_bytes(hash: u64, bytes: &[u8]) -> u64 {
+    bytes.iter().fold(hash, |sum, byte| {
+        words::wrapping_mul64(sum ^ u64::from(*byte), 0x100_0000_01B3)
+    })
+}
+
+// A hash with every word and tag, and the dictionary.
+fn hashed_memo(hash: u64, memo: &Memo) -> u64 {
+    let hash = hashed_bytes(lists::hashed_words(hash, memo.words), memo.tags);
+    lists::hashed_words(hash, memo.dictionary())
+}
+
+// The line of one table.
+fn replay(
+    rt: &impl Print,
+    lent: &mut Lent,
+    entries: usize,
+    key_words: usize,
+    compact: bool,
+    seed: u64,
+) -> io::Result<()>
+    requires { (1 ≤ entries) × (entries ≤ 1024) × (2 ≤ key_words) × (key_words ≤ 4) }
+{
+    let table = Table::new(entries, 64 * key_words, compact);
+    let (count, hash) = with_memo(lent, table, |memo| {
+        let hash = turns(memo, entries as u64, seed);
+        (memo.entered, hashed_memo(hash, memo))
+    });
+    let compact = u64::from(compact);
+    println!(rt; "{entries} {key_words} {compact} {count} {hash}")
+}
+
+// The entries of table j.
+fn entries_of(j: usize) -> usize
+    ensures { (1 ≤ result) × (result ≤ 1024) }
+{
+    match j {
+        0 => 1,
+        1 => 2,
+        2 => 3,
+        3 => 4,
+        4 => 5,
+        5 => 7,
+        6 => 8,
+        7 => 1023,
+        _ => 1024,
+    }
+}
+
+// A line for each number of entries, with and without a dictionary, and for keys of two to four words.
+pub fn replay_all(rt: &impl Print, lent: &mut Lent) -> io::Result<()> {
+    for i in 0..54 {
+        let compact = i / 3 % 2 == 1;
+        let seed = 88172645463325252 + i as u64;
+        replay(rt, lent, entries_of(i / 6), 2 + i % 3, compact, seed)?;
+    }
+    Ok(())
+}
