@@ -60,13 +60,7 @@ fn hashed_got(hash: u64, got: Option<Entry>) -> u64 {
 fn hashed_get(hash: u64, memo: &Memo, at: u64) -> u64
     requires { at < 4096 }
 {
-    let moves = Bitset {
-        a: u64::MAX,
-        b: u64::MAX,
-        c: u64::MAX,
-        d: u64::MAX,
-    };
-    let got = memo.get(RANGE, key(at, memo.table.key_words), moves);
+    let got = memo.get(RANGE, key(at, memo.table.key_words), Bitset::FULL);
     hashed_got(hash, got)
 }
 
@@ -83,27 +77,22 @@ fn turn(memo: &mut Memo, state: State, pool: u64, span: u64) -> State
     let a = next(state.seed);
     let b = next(a);
     let c = next(b);
-    let kind = b % 64;
     let at = a / 64 % pool;
-    if kind < 24 {
-        let hash = hashed_get(state.hash, memo, at);
-        return State { seed: c, hash };
+    let mut hash = state.hash;
+    match b % 64 {
+        0..24 => hash = hashed_get(hash, memo, at),
+        24 => memo.generation = memo.generation % 127 + 1,
+        _ => {
+            let bounds = Interval {
+                lo: value(b / 64, span),
+                hi: value(c / 64, span),
+            };
+            let best = best(a / 0x1_0000_0000);
+            let key = key(at, memo.table.key_words);
+            store(memo, key, Entry { bounds, best }, c % 0x10000);
+        }
     }
-    if kind == 24 {
-        memo.generation = memo.generation % 127 + 1;
-    } else {
-        let bounds = Interval {
-            lo: value(b / 64, span),
-            hi: value(c / 64, span),
-        };
-        let best = best(a / 0x1_0000_0000);
-        let key = key(at, memo.table.key_words);
-        store(memo, key, Entry { bounds, best }, c % 0x10000);
-    }
-    State {
-        seed: c,
-        hash: state.hash,
-    }
+    State { seed: c, hash }
 }
 
 // The size of values: a compact table gets few bounds at first, and then more than its dictionary holds.
@@ -127,7 +116,7 @@ fn turns(memo: &mut Memo, entries: u64, seed: u64) -> u64
     let count = 400 + 24 * entries;
     let mut state = State {
         seed,
-        hash: 0xCBF2_9CE4_8422_2325,
+        hash: lists::HASH_START,
     };
     for i in 0..count {
         let span = span(compact, i * 2 < count);
@@ -136,16 +125,9 @@ fn turns(memo: &mut Memo, entries: u64, seed: u64) -> u64
     state.hash
 }
 
-// A hash with the bytes of a slice.
-fn hashed_bytes(hash: u64, bytes: &[u8]) -> u64 {
-    bytes.iter().fold(hash, |sum, byte| {
-        words::wrapping_mul64(sum ^ u64::from(*byte), 0x100_0000_01B3)
-    })
-}
-
 // A hash with every word and tag, and the dictionary.
 fn hashed_memo(hash: u64, memo: &Memo) -> u64 {
-    let hash = hashed_bytes(lists::hashed_words(hash, memo.words), memo.tags);
+    let hash = lists::hashed_bytes(lists::hashed_words(hash, memo.words), memo.tags);
     lists::hashed_words(hash, memo.dictionary())
 }
 

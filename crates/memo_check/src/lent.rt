@@ -71,7 +71,7 @@ pub fn value(r: u64, span: u64) -> f64
     if r / 0x10_0000 % 2 == 0 { v } else { 0.0 - v }
 }
 
-// A best move as a number: 32 ones for none.
+// A best move as a number, 32 ones for none: what the Rust's list has, which the hashes and the lines of the file stdout are of.
 pub fn number(best: Option<u64>) -> u64 {
     best.unwrap_or(0xFFFF_FFFF)
 }

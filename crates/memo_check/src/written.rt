@@ -4,14 +4,14 @@ ghost use Rattle.std.specs.Prelude.{◌≤◌, ◌<◌, length};
 
 use crate::lent::{Lent, RANGE, number, store, value, with_memo};
 use memo::{Entry, Interval, Memo, Table};
-use std::fmt::Display;
+use std::fmt::{self, Display, Formatter, Write};
 use std::io;
 use words::Bitset;
 
 // A store of a run: three words of the key, the bounds, the best move (`_` for none) and the nodes, a byte for each.
 type Row = [u8; 7];
 
-// The number that a byte of a run stands for: 0 for `0` and so on, 17 for `A`, 47 for `_`.
+// The number that a byte of a run stands for: 0 for `0` and so on, 17 for `A`, 47 for `_`. (Such a byte is no type of its own, so that a `From` would be no plainer.)
 fn number_of(byte: u8) -> u64
     ensures { result < 48 }
 {
@@ -43,7 +43,38 @@ fn key(row: &Row) -> Bitset {
         a: number_of(row[0]),
         b: number_of(row[1]),
         c: number_of(row[2]),
-        d: 0,
+        ..Bitset::EMPTY
+    }
+}
+
+// What a get gives: the bits of its bounds and its best move.
+#[derive(Clone, Copy)]
+struct Got(Option<Entry>);
+
+impl Display for Got {
+    fn fmt<W: Write>(&self, f: &mut Formatter<W>) -> fmt::Result {
+        match self.0 {
+            Some(entry) => {
+                let lo = whole::value_bits(entry.bounds.lo);
+                let hi = whole::value_bits(entry.bounds.hi);
+                let best = number(entry.best);
+                write!(f, "{lo} {hi} {best}")
+            }
+            None => f.write_str("-"),
+        }
+    }
+}
+
+// A list, with one space before each item.
+#[derive(Clone, Copy)]
+struct Spaced<'a, T>(&'a [T]);
+
+impl<'a, T: Display> Display for Spaced<'a, T> {
+    fn fmt<W: Write>(&self, f: &mut Formatter<W>) -> fmt::Result {
+        for item in self.0 {
+            write!(f, " {item}")?;
+        }
+        Ok(())
     }
 }
 
@@ -51,35 +82,16 @@ fn key(row: &Row) -> Bitset {
 fn look(rt: &impl Print, memo: &Memo, key: Bitset) -> io::Result<()> {
     let moves = Bitset {
         a: 2047,
-        b: 0,
-        c: 0,
-        d: 0,
+        ..Bitset::EMPTY
     };
-    match memo.get(RANGE, key, moves) {
-        Some(entry) => {
-            let lo = whole::value_bits(entry.bounds.lo);
-            let hi = whole::value_bits(entry.bounds.hi);
-            let best = number(entry.best);
-            println!(rt; "get {lo} {hi} {best}")
-        }
-        None => println!(rt; "get -"),
-    }
-}
-
-// Writes a name and a list, one space between.
-fn print_list<T: Display>(rt: &impl Print, name: &str, items: &[T]) -> io::Result<()> {
-    print!(rt; "{name}")?;
-    for item in items {
-        print!(rt; " {item}")?;
-    }
-    println!(rt; "")
+    println!(rt; "get {}", Got(memo.get(RANGE, key, moves)))
 }
 
 // Writes what a run left, and what a get of each of its keys gives.
 fn show(rt: &impl Print, memo: &Memo, run: &[Row]) -> io::Result<()> {
-    print_list(rt, "words", memo.words)?;
-    print_list(rt, "tags", memo.tags)?;
-    print_list(rt, "dictionary", memo.dictionary())?;
+    println!(rt; "words{}", Spaced(memo.words))?;
+    println!(rt; "tags{}", Spaced(memo.tags))?;
+    println!(rt; "dictionary{}", Spaced(memo.dictionary()))?;
     for row in run {
         look(rt, memo, key(row))?;
     }
@@ -162,9 +174,7 @@ pub fn altered(rt: &impl Print, lent: &mut Lent, meta: u64) -> io::Result<()> {
     let table = Table::new(5, 128, true);
     let key = Bitset {
         a: 1,
-        b: 0,
-        c: 0,
-        d: 0,
+        ..Bitset::EMPTY
     };
     with_memo(lent, table, |memo| {
         alter(memo, meta);

@@ -12,6 +12,7 @@ use rules::Answer;
 use std::fmt::Write;
 use std::io;
 use std::io::Read;
+use std::str::FromStr;
 
 // The first line of each report.
 const HEADING: &[u8] = b"answer move value nodes\n";
@@ -30,12 +31,11 @@ struct Case<'a> {
 }
 
 // The number of a decimal text.
-fn number(text: &[u8]) -> Option<u64> {
-    std::str::from_utf8(text).ok()?.parse::<u64>().ok()
-}
-
-fn length(text: &[u8]) -> Option<usize> {
-    std::str::from_utf8(text).ok()?.parse::<usize>().ok()
+fn number<T: FromStr>(text: &[u8]) -> Option<T>
+where
+    T::Err: Drop,
+{
+    std::str::from_utf8(text).ok()?.parse::<T>().ok()
 }
 
 // The case of a line.
@@ -46,8 +46,8 @@ fn read_case(line: &[u8]) -> Option<Case<'_>> {
     let driver = number(fields.next()?)?;
     let filters = number(fields.next()?)?;
     let chain = fields.next()?;
-    let words = length(fields.next()?)?;
-    let tags = length(fields.next()?)?;
+    let words = number(fields.next()?)?;
+    let tags = number(fields.next()?)?;
     let end = fields.next()?;
     Some(Case {
         budget,
@@ -61,7 +61,7 @@ fn read_case(line: &[u8]) -> Option<Case<'_>> {
     })
 }
 
-// The pieces of a chain: `-` stands for none, else each byte for the piece and 48.
+// The pieces of a chain: `-` stands for none, else each byte for the piece and 48. (Not as in program `solve`, whose chain is digits alone, in bytes that it may write.)
 fn pieces(chain: &[u8]) -> ArrayVec<u8, 128> {
     let mut all = ArrayVec::new();
     if chain != b"-".as_slice() {
@@ -128,6 +128,7 @@ fn line_holds(line: &[u8], sheet: &[u8], words: &mut [u64], tags: &mut [u8]) -> 
 }
 
 // How far the list is read: how many sheets and cases there were, how many held, whether the last line was right, and the hash of all lines.
+// (`whole` is a plain answer: no value goes with it that an Option would carry.)
 #[derive(Clone, Copy)]
 struct Totals {
     sheets: u64,
