@@ -51,7 +51,7 @@ impl fmt::Display for Reason {
     }
 }
 
-// The number of decimal digits; one past 64 bits is the largest.
+// The number of decimal digits; one past 64 bits is the largest. (`parse` would take a `+` too, and refuse what is past 64 bits.)
 fn digits(text: &[u8]) -> Option<u64> {
     if text.is_empty() || !text.iter().all(|b| b.is_ascii_digit()) {
         return None;
@@ -90,7 +90,7 @@ fn setting(rt: &impl Env, i: usize) -> Option<u64> {
     number(argument(rt, i, &mut buf))
 }
 
-// The pieces of a chain, in place of its digits.
+// The pieces of a chain, in place of its digits. (Not as in program `replay`, where each byte is a piece of any value.)
 fn pieces(text: &mut [u8]) -> Option<&[u8]> {
     if &*text == b"-".as_slice() {
         return Some(&[]);
