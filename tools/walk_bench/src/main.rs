@@ -22,21 +22,10 @@ extern "C" {
         text_len: usize,
         rows: *mut u64,
         c: *mut u64,
-        c_len: usize,
         cells: *mut u64,
-        cells_len: usize,
     ) -> bool;
-    fn walk_fire(c: *const u64, c_len: usize, pos: *const u64, pos_len: usize, steps: u64) -> u64;
-    fn walk_play(
-        c: *const u64,
-        c_len: usize,
-        pos: *const u64,
-        pos_len: usize,
-        list: *mut u64,
-        list_len: usize,
-        seed: u64,
-        turns: u64,
-    ) -> u64;
+    fn walk_fire(c: *const u64, pos: *const u64, steps: u64) -> u64;
+    fn walk_play(c: *const u64, pos: *const u64, list: *mut u64, seed: u64, turns: u64) -> u64;
 }
 
 /// Firings, and turns, of a round.
@@ -52,9 +41,7 @@ fn compile(text: &str) -> Option<Vec<u64>> {
             text.len(),
             rows.as_mut_ptr(),
             c.as_mut_ptr(),
-            c.len(),
             cells.as_mut_ptr(),
-            cells.len(),
         )
     };
     done.then_some(c)
@@ -135,13 +122,13 @@ fn compare(name: &str, rounds: usize) {
     for _ in 0..rounds {
         let (t, a) = timed(|| fire(game, start, COUNT));
         times[0].push(t);
-        let (t, b) = timed(|| unsafe { walk_fire(c.as_ptr(), c.len(), pos.as_ptr(), 8, COUNT) });
+        let (t, b) = timed(|| unsafe { walk_fire(c.as_ptr(), pos.as_ptr(), COUNT) });
         times[1].push(t);
         assert_eq!(a, b);
         let (t, a) = timed(|| play(game, start, SEED, COUNT));
         times[2].push(t);
         let (t, b) = timed(|| unsafe {
-            walk_play(c.as_ptr(), c.len(), pos.as_ptr(), 8, list.as_mut_ptr(), list.len(), SEED, COUNT)
+            walk_play(c.as_ptr(), pos.as_ptr(), list.as_mut_ptr(), SEED, COUNT)
         });
         times[3].push(t);
         assert_eq!(a, b);
