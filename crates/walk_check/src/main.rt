@@ -8,12 +8,9 @@
 ghost use Rattle.std.specs.Prelude.{◌≤◌};
 
 use bits::{Bitset, Halt, NET_WORDS, NetWords, Position, Side};
-use indexed::Rows;
+use indexed::{CELLS, Rows};
 use lists::{HASH_START, Sheet};
 use std::io;
-
-// How many packed cells a net has.
-const CELLS: usize = 65536;
 
 // Where a walk stands.
 #[derive(Clone, Copy)]
