@@ -10,6 +10,11 @@ ghost use Rattle.rules.specs.Keymove.{keymove};
 use report::Report;
 use std::io;
 
+// The largest memo: its entries, a tag for each, and its words.
+const ENTRIES: usize = 1024;
+
+const WORDS: usize = 7168;
+
 // The answer to a sheet, in the memory that is lent: what it displays is the program's answer.
 fn answer(sheet: &[u8], words: &mut [u64], tags: &mut [u8]) -> Report
     requires { (words.old ≡ replicate 7168 0) × (tags.old ≡ replicate 1024 0) }
@@ -23,8 +28,8 @@ fn answer(sheet: &[u8], words: &mut [u64], tags: &mut [u8]) -> Report
 fn run(
     rt: &impl Print,
     sheet: &[u8],
-    words: &mut [u64; 7168],
-    tags: &mut [u8; 1024],
+    words: &mut [u64; WORDS],
+    tags: &mut [u8; ENTRIES],
 ) -> io::Result<()>
     requires { (words.old ≡ replicate 7168 0) × (tags.old ≡ replicate 1024 0) }
 {
@@ -33,8 +38,8 @@ fn run(
 
 fn main(rt: HostRuntime) -> io::Result<()> {
     let mut sheet = [0u8; 65537];
-    let mut words = [0u64; 7168];
-    let mut tags = [0u8; 1024];
+    let mut words = [0u64; WORDS];
+    let mut tags = [0u8; ENTRIES];
     let n = streams::read_full(&mut rt.stdin(), &mut sheet)?;
     run(&rt, &sheet[..n], &mut words, &mut tags)
 }

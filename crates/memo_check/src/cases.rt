@@ -151,7 +151,7 @@ fn replay(
     println!(rt; "{entries} {key_words} {compact} {count} {hash}")
 }
 
-// The entries of table j.
+// The entries of table j. (A `match`, not a table: of each arm it is seen alone that its number lies between the two.)
 fn entries_of(j: usize) -> usize
     ensures { (1 ≤ result) × (result ≤ 1024) }
 {

@@ -11,6 +11,11 @@ pub const RANGE: Interval = Interval {
     hi: 1000000.0,
 };
 
+// The words and tags of the largest memo.
+pub const WORDS: usize = 7168;
+
+pub const TAGS: usize = 1024;
+
 // Memory for the largest memo.
 #[derive(Drop)]
 pub struct Lent<'a> {
@@ -56,10 +61,8 @@ pub fn with_memo<R, F: FnOnce(&mut Memo) -> R>(lent: &mut Lent, table: Table, wo
 
 // Stores an entry whose bounds lie in the range.
 pub fn store(memo: &mut Memo, key: Bitset, entry: Entry, nodes: u64) {
-    if RANGE.contains(entry.bounds.lo) {
-        if RANGE.contains(entry.bounds.hi) {
-            memo.store(RANGE, key, entry, nodes);
-        }
+    if RANGE.contains(entry.bounds.lo) && RANGE.contains(entry.bounds.hi) {
+        memo.store(RANGE, key, entry, nodes);
     }
 }
 

@@ -9,12 +9,12 @@ mod cases;
 mod lent;
 mod written;
 
-use lent::Lent;
+use lent::{Lent, TAGS, WORDS};
 use std::io;
 
 fn main(rt: HostRuntime) -> io::Result<()> {
-    let mut words = [0u64; 7168];
-    let mut tags = [0u8; 1024];
+    let mut words = [0u64; WORDS];
+    let mut tags = [0u8; TAGS];
     let mut dict = [0u64; 255];
     let mut lent = Lent {
         words: &mut words,

@@ -7,6 +7,7 @@ ghost use Rattle.std.specs.Prelude.{◌≤◌, length};
 
 use arrayvec::{ArrayString, ArrayVec};
 use lists::{HASH_START, Sheet};
+use opening::Settings;
 use report::Report;
 use rules::Answer;
 use std::fmt::Write;
@@ -20,11 +21,7 @@ const HEADING: &[u8] = b"answer move value nodes\n";
 // A case: the settings, the lengths of the memory, and the end of its line, an answer and a hash.
 #[derive(Clone, Copy)]
 struct Case<'a> {
-    budget: u64,
-    entries: u64,
-    driver: u64,
-    filters: u64,
-    chain: &'a [u8],
+    settings: Settings<'a>,
     words: usize,
     tags: usize,
     end: &'a [u8],
@@ -41,23 +38,17 @@ where
 // The case of a line.
 fn read_case(line: &[u8]) -> Option<Case<'_>> {
     let mut fields = line.splitn(9, |b| *b == b' ').skip(1);
-    let budget = number(fields.next()?)?;
-    let entries = number(fields.next()?)?;
-    let driver = number(fields.next()?)?;
-    let filters = number(fields.next()?)?;
-    let chain = fields.next()?;
-    let words = number(fields.next()?)?;
-    let tags = number(fields.next()?)?;
-    let end = fields.next()?;
     Some(Case {
-        budget,
-        entries,
-        driver,
-        filters,
-        chain,
-        words,
-        tags,
-        end,
+        settings: Settings {
+            budget: number(fields.next()?)?,
+            entries: number(fields.next()?)?,
+            driver: number(fields.next()?)?,
+            filters: number(fields.next()?)?,
+            chain: fields.next()?,
+        },
+        words: number(fields.next()?)?,
+        tags: number(fields.next()?)?,
+        end: fields.next()?,
     })
 }
 
@@ -96,13 +87,14 @@ fn holds(case: Case, sheet: &[u8], words: &mut [u64], tags: &mut [u8]) -> bool {
     for (i, t) in tags.iter_mut().enumerate() {
         *t = (i % 255 + 1) as u8;
     }
-    let chain = pieces(case.chain);
+    let settings = case.settings;
+    let chain = pieces(settings.chain);
     let answer = game::choose(
         sheet,
-        case.budget,
-        case.entries,
-        case.driver,
-        case.filters,
+        settings.budget,
+        settings.entries,
+        settings.driver,
+        settings.filters,
         chain.as_slice(),
         words,
         tags,

@@ -43,7 +43,8 @@ impl From<Refusal> for u64 {
     }
 }
 
-// What a call answers. The exact answer carries the value of the root's run, as side 1 sees it; `line` is that of refusals 1 to 3, else 0.
+// What a call answers, in the four forms that document 01 names (so neither an Option nor a Result). The exact answer carries the value of the root's run, as side 1 sees it;
+// `line` is that of refusals 1 to 3, else 0 (not None: a word in the C interface, as each of the numbers is).
 #[derive(Clone, Copy)]
 pub enum Answer {
     Exact {

@@ -4,20 +4,21 @@
 
 #![tactic(auto)]
 
-use lists::{HASH_START, Sheet};
+use lists::{HASH_FACTOR, HASH_START, Sheet};
+use sheet::ROWS;
 use std::io;
 
-// FNV-1a over words.
+// FNV-1a by whole words, as the stored answers are.
 fn mixed(rows: &[u64]) -> u64 {
     let mut h = HASH_START;
     for row in rows {
-        h = (h ^ *row).wrapping_mul(1099511628211);
+        h = (h ^ *row).wrapping_mul(HASH_FACTOR);
     }
     h
 }
 
 // Reads a sheet, and writes what it gives.
-fn answer(rt: &impl Print, text: &[u8], rows: &mut [u64; 6560]) -> io::Result<()> {
+fn answer(rt: &impl Print, text: &[u8], rows: &mut [u64; ROWS]) -> io::Result<()> {
     match sheet::read_sheet(text, rows) {
         Ok(size) => {
             let h = mixed(&rows[..size.rows]);
@@ -34,7 +35,7 @@ fn answer(rt: &impl Print, text: &[u8], rows: &mut [u64; 6560]) -> io::Result<()
 }
 
 // Goes through the list, line by line: a case is read, another line builds the sheet.
-fn run(rt: &impl Print, list: &[u8], bytes: &mut [u8], rows: &mut [u64; 6560]) -> io::Result<()> {
+fn run(rt: &impl Print, list: &[u8], bytes: &mut [u8], rows: &mut [u64; ROWS]) -> io::Result<()> {
     let mut sheet = Sheet::new(bytes);
     for line in list.split(|b| *b == b'\n') {
         match line.first() {
@@ -48,7 +49,7 @@ fn run(rt: &impl Print, list: &[u8], bytes: &mut [u8], rows: &mut [u64; 6560]) -
 fn main(rt: HostRuntime) -> io::Result<()> {
     let mut list = [0u8; 262144];
     let mut sheet = [0u8; 70000];
-    let mut rows = [0u64; 6560];
+    let mut rows = [0u64; ROWS];
     let n = streams::read_full(&mut rt.stdin(), &mut list)?;
     run(&rt, &list[..n], &mut sheet, &mut rows)
 }

@@ -3,32 +3,27 @@
 
 #![tactic(auto)]
 
+use opening::Settings;
 use report::Report;
 use rules::{Answer, Refusal};
+use sheet::Fault;
 use std::env::{Env, FillError};
 use std::{fmt, io};
 
-// The settings of a call.
-#[derive(Clone, Copy)]
-struct Settings<'a> {
-    budget: u64,
-    entries: u64,
-    driver: u64,
-    filters: u64,
-    chain: &'a [u8],
-}
+// The words and tags of the largest memo.
+const WORDS: usize = 7168;
 
-// A refusal in words, with its line where it has one.
+const TAGS: usize = 1024;
+
+// A refusal in words, with its line where it has one. (0 for none: what the call answers, a word in the C interface.)
 #[derive(Clone, Copy)]
-struct Reason {
-    refusal: Refusal,
-    line: u64,
-}
+struct Reason(Fault);
 
 impl fmt::Display for Reason {
     fn fmt<W: fmt::Write>(&self, f: &mut fmt::Formatter<W>) -> fmt::Result {
-        f.write_str(match self.refusal {
-            Refusal::Sheet if self.line == 0 => "the sheet has more than 65,536 bytes",
+        let Fault { refusal, line } = self.0;
+        f.write_str(match refusal {
+            Refusal::Sheet if line == 0 => "the sheet has more than 65,536 bytes",
             Refusal::Sheet => "a line of the sheet is malformed",
             Refusal::Range => "a number, an index or a count of rows is beyond a limit",
             Refusal::Roll => {
@@ -44,16 +39,21 @@ impl fmt::Display for Reason {
             Refusal::Wide => "more than 64 moves in one position",
             Refusal::Deep => "a node 65 moves below its run's root",
         })?;
-        if self.line > 0 {
-            write!(f, ", line {}", self.line)?;
+        if line > 0 {
+            write!(f, ", line {line}")?;
         }
         Ok(())
     }
 }
 
+// Whether a text is one of digits, of which there is at least one. (A digit's number is its byte % 16: the digits are the bytes from 48, three times 16, on.)
+fn is_digits(text: &[u8]) -> bool {
+    !text.is_empty() && text.iter().all(|b| b.is_ascii_digit())
+}
+
 // The number of decimal digits; one past 64 bits is the largest. (`parse` would take a `+` too, and refuse what is past 64 bits.)
 fn digits(text: &[u8]) -> Option<u64> {
-    if text.is_empty() || !text.iter().all(|b| b.is_ascii_digit()) {
+    if !is_digits(text) {
         return None;
     }
     Some(
@@ -95,7 +95,7 @@ fn pieces(text: &mut [u8]) -> Option<&[u8]> {
     if &*text == b"-".as_slice() {
         return Some(&[]);
     }
-    if text.is_empty() || !text.iter().all(|b| b.is_ascii_digit()) {
+    if !is_digits(text) {
         return None;
     }
     for b in text.iter_mut() {
@@ -124,8 +124,8 @@ fn run(
     rt: &(impl Print + Eprint),
     settings: Settings,
     sheet: &[u8],
-    words: &mut [u64; 7168],
-    tags: &mut [u8; 1024],
+    words: &mut [u64; WORDS],
+    tags: &mut [u8; TAGS],
 ) -> io::Result<()> {
     let answer = game::choose(
         sheet,
@@ -139,7 +139,7 @@ fn run(
     );
     rt.print(Report(answer))?;
     if let Answer::Refused { refusal, line, .. } = answer {
-        let reason = Reason { refusal, line };
+        let reason = Reason(Fault { refusal, line });
         eprintln!(rt; "refused: {reason}")?;
     }
     Ok(())
@@ -148,8 +148,8 @@ fn run(
 fn main(rt: HostRuntime) -> io::Result<()> {
     let mut sheet = [0u8; 65537];
     let mut buf = [0u8; 4096];
-    let mut words = [0u64; 7168];
-    let mut tags = [0u8; 1024];
+    let mut words = [0u64; WORDS];
+    let mut tags = [0u8; TAGS];
     if !has_argument(&rt, 5) || has_argument(&rt, 6) {
         return usage(&rt);
     }

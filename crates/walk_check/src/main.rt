@@ -10,6 +10,7 @@ ghost use Rattle.std.specs.Prelude.{◌≤◌};
 use bits::{Bitset, Halt, NET_WORDS, NetWords, Position, Side};
 use indexed::{CELLS, Rows};
 use lists::{HASH_START, Sheet};
+use sheet::ROWS;
 use std::io;
 
 // Where a walk stands.
@@ -98,10 +99,10 @@ impl<'a> Walker<'a> {
     }
 }
 
-// What is hashed for the deficit of a transition that no marking enables.
+// What is hashed for the deficit of a transition that no marking enables. (What the Rust's list hashes.)
 const NO_DEFICIT: u64 = 0xFFFF_FFFF;
 
-// What is hashed for the side to move.
+// What is hashed for the side to move. (What the Rust's list hashes.)
 fn side_number(side: Option<Side>) -> u64 {
     match side {
         None => 0,
@@ -127,7 +128,7 @@ fn walk(rows: Rows, moves: &[u8], c: &mut [u64; NET_WORDS], cells: &mut [u64; CE
 fn answer(
     rt: &impl Print,
     text: &[u8],
-    rows: &mut [u64; 6560],
+    rows: &mut [u64; ROWS],
     moves: &[u8],
     c: &mut [u64; NET_WORDS],
     cells: &mut [u64; CELLS],
@@ -151,7 +152,7 @@ fn run(
     rt: &impl Print,
     list: &[u8],
     bytes: &mut [u8],
-    rows: &mut [u64; 6560],
+    rows: &mut [u64; ROWS],
     c: &mut [u64; NET_WORDS],
     cells: &mut [u64; CELLS],
 ) -> io::Result<()> {
@@ -168,7 +169,7 @@ fn run(
 fn main(rt: HostRuntime) -> io::Result<()> {
     let mut list = [0u8; 524288];
     let mut sheet = [0u8; 70000];
-    let mut rows = [0u64; 6560];
+    let mut rows = [0u64; ROWS];
     let mut c = [0u64; NET_WORDS];
     let mut cells = [0u64; CELLS];
     let n = streams::read_full(&mut rt.stdin(), &mut list)?;
