@@ -2,16 +2,17 @@
 use Rattle.std.proofs.Common.{◌≡◌, length, length-append, ℕ, zero, suc, ◌+◌, ◌/◌, ◌^◌, ◌<◌, ◌≤◌, ltb, ltb-true, ltb-false, List, [], ◌∷◌, ◌++◌, ℤ, pos, negsuc, ap, sym, ◌∙◌, refl, pow-suc, arith, append_assoc, w64, to_z, of_z, to_z-of_z}
 use Rattle.std.proofs.lemmas.Fmt.{decimal_digit, decimal_step, length-decimal-le, length_signed_le}
 use Rattle.std.specs.Fmt.{decimal, signed_decimal}
-use mathlib.Core.Option.{some}
+use mathlib.Core.Option.{Option, none, some}
 use lib.Ieee.{Float, to_signed}
 use lib.Signed.{mag}
 use lib.Ieee.Casts.{to_signed_in}
 use Rattle.words.proofs.Lists.{by_test}
 use Rattle.rules.specs.declared.Refusal.{Refusal}
 use Rattle.rules.specs.declared.Refusal.TheVariants.{Sheet, Range, Roll, Settings, NoGoals, Memory, Unsettled, Mixed, Spilled, Endless, Wide, Deep}
+use Rattle.rules.specs.declared.Answer.{Answer}
 use Rattle.rules.specs.declared.Answer.TheVariants.{Exact, None, Spent, Refused}
 use Rattle.rules.specs.Text.{bytes}
-use Rattle.rules.specs.Answer.{refusal_number, digits, shown, report}
+use Rattle.rules.specs.Answer.{refusal_number, columns, digits, shown, report}
 
 pub digits_decimal : (k n : ℕ) → n < 10 ^ suc k → n < 2 ^ 64 → digits k n ≡ decimal n
 unfolding digits
@@ -51,37 +52,29 @@ refused_text x l n k e a b f = rw (sym (shown_decimal k a), sym (shown_decimal l
 pub passed : {z : ℤ} (v : Float) → z ≡ to_signed 63 v → to_z w64 (of_z w64 z) ≡ to_signed 63 v
 passed {z} v e = ap (λ (y : ℤ). to_z w64 (of_z w64 y)) e ∙ to_z-of_z {w = w64} (record { sfits = to_signed_in 63 v })
 
--- A report has at most 128 bytes.
+-- ---- a report has at most 128 bytes
 
-number_length : (n : ℕ) → n < 2 ^ 64 → length (decimal n) ≤ 20
-number_length n f = length-decimal-le 20 n (omega arith) (omega arith) f
+digits_length : (k n : ℕ) → length (digits k n) ≤ suc k
+unfolding digits
+digits_length zero n = omega arith
+digits_length (suc k) n =
+    by_test (ltb n 10)
+    (λ e. rw e (omega arith))
+    (λ e. rw e (simp length-append (omega (arith, digits_length k (n / 10)))))
 
-pub exact_length : (t n : ℕ) (v : Float) → t < 2 ^ 64 → n < 2 ^ 64 → length (report (Exact t v n)) ≤ 128
-exact_length t n v a b =
-    let z : length (signed_decimal (to_signed 63 v)) ≤ 20 = length_signed_le 19 (to_signed 63 v) (omega (arith, to_signed_in 63 v)) (to_signed_in 63 v) in
-    rw (exact_text t n v a b (to_signed_in 63 v)) (simp length-append (omega (arith, z, number_length t a, number_length n b)))
+shown_length : (z : Option ℤ) → length (shown z) ≤ 21
+unfolding shown
+shown_length none = omega arith
+shown_length (some (pos n)) = omega (arith, digits_length 19 n)
+shown_length (some (negsuc n)) = omega (arith, digits_length 19 (suc n))
 
-pub none_length : length (report None) ≤ 128
-none_length = rw none_text (omega arith)
+word_length : (a : Answer) → length (columns a).word ≤ 7
+word_length (Exact t v n) = omega arith
+word_length None = omega arith
+word_length (Spent n) = omega arith
+word_length (Refused x l n) = omega arith
 
-pub spent_length : (n : ℕ) → n < 2 ^ 64 → length (report (Spent n)) ≤ 128
-spent_length n b = rw (spent_text n b) (simp length-append (omega (arith, number_length n b)))
-
-number_small : (x : Refusal) → refusal_number x < 2 ^ 64
-number_small Sheet = omega arith
-number_small Range = omega arith
-number_small Roll = omega arith
-number_small Settings = omega arith
-number_small NoGoals = omega arith
-number_small Memory = omega arith
-number_small Unsettled = omega arith
-number_small Mixed = omega arith
-number_small Spilled = omega arith
-number_small Endless = omega arith
-number_small Wide = omega arith
-number_small Deep = omega arith
-
-pub refused_length : (x : Refusal) (l n : ℕ) → l < 2 ^ 64 → n < 2 ^ 64 → length (report (Refused x l n)) ≤ 128
-refused_length x l n b f =
-    let a : refusal_number x < 2 ^ 64 = number_small x in
-    rw (refused_text x l n (refusal_number x) refl a b f) (simp length-append (omega (arith, number_length (refusal_number x) a, number_length l b, number_length n f)))
+pub fits : (a : Answer) → length (report a) ≤ 128
+unfolding report
+fits a =
+    simp length-append (omega (arith, word_length a, shown_length (columns a).move, shown_length (columns a).value, shown_length (some (pos (columns a).nodes))))
