@@ -49,6 +49,10 @@ fn whole(folder: &Path, file: &str) -> String {
     out
 }
 
+/// A function of the kit's library that Rust has under another name.
+const NAN_READ: &str = "use std::num::f64_from_bits_with_nan;";
+const NAN_READ_BY_RUST: &str = "fn f64_from_bits_with_nan(bits: u64) -> f64 { f64::from_bits(bits) }";
+
 /// A crate's text as Rust: no `ghost` item or field, no `requires` or `ensures`, and no attribute or derive
 /// that is the prover's; the crates are modules beside each other.
 fn rust(text: &str, own: &str, names: &[&str]) -> String {
@@ -67,6 +71,7 @@ fn rust(text: &str, own: &str, names: &[&str]) -> String {
                 open += depth(lines.next().expect("the end of a clause"));
             }
         } else if !words.starts_with("#![tactic(") && !words.starts_with("#[tactic(") && !words.starts_with("#[cycle(") {
+            let line = if words == NAN_READ { NAN_READ_BY_RUST } else { line };
             out += &paths(line, own, names).replace(", Drop)]", ")]").replace("#[derive(Drop)]", "");
             out += "\n";
         }
