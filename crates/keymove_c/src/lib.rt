@@ -32,7 +32,7 @@ pub fn encode(answer: Answer, out: &mut [u64])
     out[..4].copy_from_slice(&words_of(answer));
 }
 
-// The call. Where out has fewer than four words it does nothing at all.
+// The call. Where out has fewer than four words it does nothing at all. (Nine parameters: the C interface.)
 #[unsafe(no_mangle)]
 pub extern "C" fn keymove_choose(
     sheet: &[u8],

@@ -137,6 +137,7 @@ fn replay(
     lent: &mut Lent,
     entries: usize,
     key_words: usize,
+    // (a plain answer, as in memo's Table)
     compact: bool,
     seed: u64,
 ) -> io::Result<()>

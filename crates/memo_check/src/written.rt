@@ -111,6 +111,7 @@ fn written(
     lent: &mut Lent,
     entries: usize,
     key_words: usize,
+    // (a plain answer, as in memo's Table)
     compact: bool,
     run: &[Row],
 ) -> io::Result<()>
