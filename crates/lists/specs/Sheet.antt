@@ -1,6 +1,5 @@
 -- The sheet that the lines of a list build. Assumes nothing: these are definitions.
-use Rattle.std.specs.Prelude.{List, [], ◌∷◌, ◌++◌, ℕ, zero, suc, ◌+◌, ◌*◌, ◌%◌, ◌≤◌, ◌==◌, cond, nat_lt, length, take, drop, position, Option, Some, None}
-use Rattle.std.specs.Char.{digit_value}
+use Rattle.std.specs.Prelude.{List, [], ◌∷◌, ◌++◌, ℕ, zero, suc, ◌+◌, ◌*◌, ◌%◌, ◌≤◌, ◌==◌, cond, ltb, length, take, drop, position, Option, Some, None}
 use Rattle.lists.specs.declared.sheet.Sheet.{Sheet}
 
 -- the bytes so far
@@ -11,9 +10,9 @@ text_of s = take s.len s.bytes.now
 abbrev pub HasRoom : Sheet → ℕ → Type 0
 HasRoom s n = s.len + n ≤ length s.bytes.now
 
--- the value of a hexadecimal digit, 0 of another byte
+-- the value of a hexadecimal digit; a number below 16 of any other byte
 abbrev pub hex : ℕ → ℕ
-hex c = cond (nat_lt (digit_value c) 16) (digit_value c) 0
+hex c = cond (ltb c 58) (c % 16) ((c % 16 + 9) % 16)
 
 -- the bytes that `xHH...` adds, of two digits each
 unfoldable pub hex_bytes : List ℕ → List ℕ
