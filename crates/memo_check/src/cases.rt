@@ -50,9 +50,9 @@ fn hashed_got(hash: u64, got: Option<Entry>) -> u64 {
         Some(entry) => {
             let lo = whole::value_bits(entry.bounds.lo);
             let hi = whole::value_bits(entry.bounds.hi);
-            lists::hashed_words(hash, &[lo, hi, number(entry.best)])
+            test_cases::hashed_words(hash, &[lo, hi, number(entry.best)])
         }
-        None => lists::hashed(hash, 7),
+        None => test_cases::hashed(hash, 7),
     }
 }
 
@@ -116,7 +116,7 @@ fn turns(memo: &mut Memo, entries: u64, seed: u64) -> u64
     let count = 400 + 24 * entries;
     let mut state = State {
         seed,
-        hash: lists::HASH_START,
+        hash: test_cases::HASH_START,
     };
     for i in 0..count {
         let span = span(compact, i * 2 < count);
@@ -127,8 +127,8 @@ fn turns(memo: &mut Memo, entries: u64, seed: u64) -> u64
 
 // A hash with every word and tag, and the dictionary.
 fn hashed_memo(hash: u64, memo: &Memo) -> u64 {
-    let hash = lists::hashed_bytes(lists::hashed_words(hash, memo.words), memo.tags);
-    lists::hashed_words(hash, memo.dictionary())
+    let hash = test_cases::hashed_bytes(test_cases::hashed_words(hash, memo.words), memo.tags);
+    test_cases::hashed_words(hash, memo.dictionary())
 }
 
 // The line of one table.

@@ -4,9 +4,9 @@
 
 #![tactic(auto)]
 
-use lists::{HASH_FACTOR, HASH_START, Sheet};
 use sheet::ROWS;
 use std::io;
+use test_cases::{HASH_FACTOR, HASH_START, Sheet};
 
 // FNV-1a by whole words, as the stored answers are.
 fn mixed(rows: &[u64]) -> u64 {

@@ -3,7 +3,7 @@
 
 #![tactic(auto)]
 
-use opening::Settings;
+use input::Settings;
 use report::Report;
 use rules::{Answer, Refusal};
 use sheet::Fault;

@@ -9,9 +9,9 @@ ghost use Rattle.std.specs.Prelude.{◌≤◌};
 
 use bits::{Bitset, Halt, NET_WORDS, NetWords, Position, Side};
 use indexed::{CELLS, Rows};
-use lists::{HASH_START, Sheet};
 use sheet::ROWS;
 use std::io;
+use test_cases::{HASH_START, Sheet};
 
 // Where a walk stands.
 #[derive(Clone, Copy)]
@@ -40,8 +40,8 @@ impl<'a> Walker<'a> {
     fn hashed_moves(self, p: Position, h: u64) -> u64 {
         let moves = self.net.moves(p);
         moves.iter().fold(
-            lists::hashed(h, moves.len()),
-            |sum, t| lists::hashed(sum, t),
+            test_cases::hashed(h, moves.len()),
+            |sum, t| test_cases::hashed(sum, t),
         )
     }
 
@@ -49,8 +49,8 @@ impl<'a> Walker<'a> {
     fn hashed_deficits(self, p: Position, h: u64) -> u64 {
         let mut sum = h;
         for t in 0..self.transitions {
-            sum = lists::hashed(sum, self.net.deficit(p, t).unwrap_or(NO_DEFICIT));
-            sum = lists::hashed(sum, u64::from(self.net.has_move(p, t)));
+            sum = test_cases::hashed(sum, self.net.deficit(p, t).unwrap_or(NO_DEFICIT));
+            sum = test_cases::hashed(sum, u64::from(self.net.has_move(p, t)));
         }
         sum
     }
@@ -58,10 +58,10 @@ impl<'a> Walker<'a> {
     // What is seen of a position: its marking, its tracked set, its moves, the side to move, whether it is over, its score, and the deficits.
     fn seen(self, p: Position, h: u64) -> u64 {
         let words = words_of(p.marking, p.enabled);
-        let mut sum = self.hashed_moves(p, lists::hashed_words(h, &words));
-        sum = lists::hashed(sum, side_number(self.net.mover(p)));
-        sum = lists::hashed(sum, u64::from(self.net.over(p)));
-        sum = lists::hashed(sum, whole::value_bits(self.net.score(p)));
+        let mut sum = self.hashed_moves(p, test_cases::hashed_words(h, &words));
+        sum = test_cases::hashed(sum, side_number(self.net.mover(p)));
+        sum = test_cases::hashed(sum, u64::from(self.net.over(p)));
+        sum = test_cases::hashed(sum, whole::value_bits(self.net.score(p)));
         self.hashed_deficits(p, sum)
     }
 
@@ -83,9 +83,9 @@ impl<'a> Walker<'a> {
             from.at
         };
         match self.net.play(p, t) {
-            Ok(q) => self.arrived(q, lists::hashed(from.hash, 0)),
-            Err(Halt::Spilled) => self.arrived(p, lists::hashed(from.hash, 1)),
-            Err(Halt::Endless) => self.arrived(p, lists::hashed(from.hash, 2)),
+            Ok(q) => self.arrived(q, test_cases::hashed(from.hash, 0)),
+            Err(Halt::Spilled) => self.arrived(p, test_cases::hashed(from.hash, 1)),
+            Err(Halt::Endless) => self.arrived(p, test_cases::hashed(from.hash, 2)),
         }
     }
 
@@ -93,7 +93,7 @@ impl<'a> Walker<'a> {
     fn follow(self, first: Position, moves: &[u8]) -> u64 {
         let mut w = self.arrived(first, HASH_START);
         for pair in moves.chunks_exact(2) {
-            w = self.step(w, first, u64::from(lists::byte(pair[0], pair[1])));
+            w = self.step(w, first, u64::from(test_cases::byte(pair[0], pair[1])));
         }
         w.hash
     }
@@ -121,7 +121,7 @@ fn walk(rows: Rows, moves: &[u8], c: &mut [u64; NET_WORDS], cells: &mut [u64; CE
         net,
         transitions: rows.transitions as u64,
     };
-    walker.follow(net.fresh(opening::start(rows.words)), moves)
+    walker.follow(net.fresh(input::start(rows.words)), moves)
 }
 
 // Reads a sheet, walks its net, and writes the line.

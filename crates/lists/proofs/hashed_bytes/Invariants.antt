@@ -1,7 +1,0 @@
--- The hash of what is left, from the hash so far, is that of the whole. Assumes nothing.
-use Rattle.std.proofs.Common.{◌≡◌, drop}
-use Rattle.lists.specs.Hash.{fnv}
-use Rattle.lists.proofs.hashed_bytes.Given as goal
-
-abbrev pub invariant-loop-b : goal.invariant-loop-b
-invariant-loop-b l = fnv l.h (drop l.b-index l.bytes) ≡ fnv l.initial.hash l.bytes

@@ -1,7 +1,0 @@
--- The hash of what is left, from the hash so far, is that of the whole. Assumes nothing.
-use Rattle.std.proofs.Common.{◌≡◌, drop}
-use Rattle.lists.specs.Hash.{fnv_words}
-use Rattle.lists.proofs.hashed_words.Given as goal
-
-abbrev pub invariant-loop-w : goal.invariant-loop-w
-invariant-loop-w l = fnv_words l.h (drop l.w-index l.words) ≡ fnv_words l.initial.hash l.words
