@@ -1,4 +1,2 @@
 -- What the contracts cite. Assumes nothing.
-pub mod Runs
-pub mod Picking
 pub mod Calling
