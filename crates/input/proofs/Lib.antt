@@ -4,3 +4,4 @@ pub mod Tokens
 pub mod Measures
 pub mod Bounds
 pub mod Refusals
+pub mod Opening

@@ -1,7 +1,9 @@
 // Settings that are within their ranges.
 
-ghost use Rattle.std.specs.Prelude.{◌≤◌, length};
+ghost use Rattle.std.specs.Prelude.{◌≡◌, true, ◌≤◌, length};
 ghost use Rattle.rules.specs.Limits.{max_budget, max_entries, max_pieces};
+ghost use Rattle.rules.specs.Call as call;
+ghost use Rattle.input.specs.Input.{options_of};
 
 use crate::Settings;
 
@@ -9,6 +11,7 @@ use crate::Settings;
 #[derive(Clone, Copy)]
 pub struct Accepted<'a> {
     pub settings: Settings<'a>,
+    pub ghost fit: { call.settings_fit settings.budget (options_of settings) ≡ true },
     pub ghost budget_fits: { settings.budget ≤ max_budget },
     pub ghost entries_some: { 1 ≤ settings.entries },
     pub ghost entries_fit: { settings.entries ≤ max_entries },
