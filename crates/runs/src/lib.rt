@@ -7,4 +7,4 @@ mod key;
 mod scale;
 
 pub use driver::Driver;
-pub use key::{Choice, Root, choose_from};
+pub use key::{Choice, Root, choose};
