@@ -20,7 +20,7 @@ use Rattle.whole.proofs.Wholes.{zero_whole, add_small, add-mul_whole}
 use Rattle.rules.specs.Limits.{max_number, max_rows}
 use Rattle.rules.specs.Net.{Row, Net, pay, output, is, rows_of, arcs}
 use Rattle.rules.specs.Goals.{reward_at, paid}
-use Rattle.sheet.specs.Packed.{unpack, net_in}
+use Rattle.rows.specs.Packed.{unpack, net_in}
 use Rattle.indexed.specs.Limited.{Limited}
 use Rattle.indexed.specs.Goals.{reward_part, paid_part}
 use Rattle.indexed.proofs.More.{net_more, rows_split}
