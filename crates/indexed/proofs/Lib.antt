@@ -1,4 +1,4 @@
--- Laws of compiling a net. Assumes nothing.
+-- Laws of compiling what the walk uses of a net. Assumes nothing.
 pub mod Conditions
 pub mod More
 pub mod Cells
@@ -9,15 +9,6 @@ pub mod Roles
 pub mod Crosses
 pub mod Stages
 pub mod Pays
-pub mod Sums
-pub mod Values
 pub mod Walk
-pub mod Goals
-pub mod Touch
-pub mod Users
-pub mod Aiming
-pub mod Feeders
-pub mod Fed
-pub mod Aims
 -- what an accepted sheet gives
 pub mod Accepted

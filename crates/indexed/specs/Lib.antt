@@ -4,7 +4,4 @@ pub mod Rows
 pub mod Cells
 pub mod Sections
 pub mod Pays
-pub mod Values
 pub mod Stages
-pub mod Goals
-pub mod Aims
