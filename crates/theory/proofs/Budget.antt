@@ -24,15 +24,15 @@ module _ (G : Game) (S : Settings G) (B : ℕ) where
   open S.policy use {arrange}
 
   -- How the end `y` of a run with budget `B` stands to the end `x` of the same run with none.
-  pub data Within {A : Type 0} (x y : Outcome A × State S) : Type 0 where
-    same : x.1.nodes ≤ B → y ≡ x → Within x y
-    short : B < x.1.nodes → y.0 ≡ spent → y.1.nodes ≡ suc B → Within x y
+  pub data InBudget {A : Type 0} (x y : Outcome A × State S) : Type 0 where
+    same : x.1.nodes ≤ B → y ≡ x → InBudget x y
+    short : B < x.1.nodes → y.0 ≡ spent → y.1.nodes ≡ suc B → InBudget x y
 
   -- `f` has no budget, so it is never spent, and `g` is the same run with budget `B`.
   pub record Budgeted {A : Type 0} (f g : Run G S A) : Type 0 where
     pub unspent : (st : State S) → Unspent (f st).0
     pub grows : (st : State S) → st.nodes ≤ (f st).1.nodes
-    pub within : (st : State S) → st.nodes ≤ B → Within (f st) (g st)
+    pub within : (st : State S) → st.nodes ≤ B → InBudget (f st) (g st)
 
   -- a run that counts nothing
   pub budgeted_pure : {A : Type 0} (f : Run G S A) → ((st : State S) → (f st).1.nodes ≡ st.nodes) → ((st : State S) → Unspent (f st).0) → Budgeted f f
@@ -53,12 +53,12 @@ module _ (G : Game) (S : Settings G) (B : ℕ) where
       longer spent z = omega arith
       longer (refused x) z = omega arith
 
-      on : (o : Outcome A) (z : State S) → z.nodes ≤ B → Within (follow G S o h z) (follow G S o k z)
+      on : (o : Outcome A) (z : State S) → z.nodes ≤ B → InBudget (follow G S o h z) (follow G S o k z)
       on (value a) z l = (b a).within z l
       on spent z l = same l refl
       on (refused x) z l = same l refl
 
-      step : (x y : Outcome A × State S) → Within x y → Within (follow G S x.0 h x.1) (follow G S y.0 k y.1)
+      step : (x y : Outcome A × State S) → InBudget x y → InBudget (follow G S x.0 h x.1) (follow G S y.0 k y.1)
       step x y (same l e) = rw e (on x.0 x.1 l)
       step x y (short l e n) = rw e (short (omega (arith, longer x.0 x.1)) refl n)
 
@@ -122,7 +122,7 @@ module _ (G : Game) (S : Settings G) (B : ℕ) where
     unfolding counted ticked passes budgeted
     counted_budgeted p w = record { unspent = λ st. (ih p w).unspent (tick G S st); grows = λ st. omega (arith, (ih p w).grows (tick G S st)); within = λ st l. go st l (ltb B (suc st.nodes)) refl }
       where
-        go : (st : State S) → st.nodes ≤ B → (x : Bool) → ltb B (suc st.nodes) ≡ x → Within (f p w (tick G S st)) (budgeted G S x (g p w) (tick G S st))
+        go : (st : State S) → st.nodes ≤ B → (x : Bool) → ltb B (suc st.nodes) ≡ x → InBudget (f p w (tick G S st)) (budgeted G S x (g p w) (tick G S st))
         go st l true e = short (omega (arith, ltb-true, (ih p w).grows (tick G S st))) refl (omega (arith, ltb-true))
         go st l false e = (ih p w).within (tick G S st) (ltb-false B (suc st.nodes) e)
 

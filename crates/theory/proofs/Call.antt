@@ -19,7 +19,7 @@ use Rattle.theory.specs.Regular.{Turn, Regular}
 use Rattle.theory.proofs.Forces.{exact_unique}
 use Rattle.theory.proofs.Minimax.{worth_exact, minimax_worth, minimax_some}
 use Rattle.theory.proofs.Answer.{Sound, Gives}
-use Rattle.theory.proofs.Budget.{Within, same, short}
+use Rattle.theory.proofs.Budget.{InBudget, same, short}
 use Rattle.theory.proofs.Causes.{choose_blamed}
 use Rattle.theory.proofs.Regular.{Valued, valued, regular_uncaused}
 use Rattle.theory.proofs.Choose.{Chosen, choose_sound}
@@ -103,6 +103,6 @@ module _ (G : Game) (S : Settings G) (M : Lawful G S) (d : ℕ) where
       Answered G S B p (choose G S δ none (suc d) p st) (choose G S δ (some B) (suc d) p st)
   choose_answer δ t B p st h ne real sound l = go ((choose_budgeted G S B δ (suc d) p).within st l)
     where
-      go : Within G S B (choose G S δ none (suc d) p st) (choose G S δ (some B) (suc d) p st) → Answered G S B p (choose G S δ none (suc d) p st) (choose G S δ (some B) (suc d) p st)
+      go : InBudget G S B (choose G S δ none (suc d) p st) (choose G S δ (some B) (suc d) p st) → Answered G S B p (choose G S δ none (suc d) p st) (choose G S δ (some B) (suc d) p st)
       go (same n e) = let (m, v, x, y) = choose_minimax δ t p st h ne real sound in exact n e m v (rw e x) y
       go (short n e c) = over n e c

@@ -21,7 +21,7 @@ use Rattle.theory.specs.Counted.{left, recount, anew, choose_anew, choice_anew}
 use Rattle.theory.proofs.Simulation.{Both, Agree, Entries, InStep, Closed, Ends, alpha_beta_steps}
 use Rattle.theory.proofs.InStep.{Drivers, run_steps}
 use Rattle.theory.proofs.Answer.{Gives}
-use Rattle.theory.proofs.Budget.{Within, same, short, alpha_beta_budgeted}
+use Rattle.theory.proofs.Budget.{InBudget, same, short, alpha_beta_budgeted}
 use Rattle.theory.proofs.Runs.{run_budgeted}
 
 -- a count within a budget
@@ -129,7 +129,7 @@ module _ (G : Game) (S : Settings G) where
         inside spent z l = tt
         inside (refused r) z l = tt
 
-        go : Within G S B x y → Gives (λ v. y.1.nodes ≤ B) y.0
+        go : InBudget G S B x y → Gives (λ v. y.1.nodes ≤ B) y.0
         go (same l e) = rw e (inside x.0 x.1 l)
         go (short l e c) = rw e tt
 
