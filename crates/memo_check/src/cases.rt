@@ -3,8 +3,9 @@
 ghost use Rattle.std.specs.Prelude.{◌≤◌, ◌<◌};
 
 use crate::lent::{Lent, RANGE, number, store, value, with_memo};
-use memo::{Entry, Interval, Memo, Table};
+use memo::Memo;
 use std::io;
+use table::{Entry, Interval, Table};
 use words::Bitset;
 
 // Where a replay stands.

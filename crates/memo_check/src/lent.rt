@@ -2,7 +2,8 @@
 
 ghost use Rattle.std.specs.Prelude.{◌≤◌, ◌<◌, length};
 
-use memo::{Entry, Interval, Memo, Table};
+use memo::Memo;
+use table::{Entry, Interval, Table};
 use words::Bitset;
 
 // The bounds of every value.

@@ -3,9 +3,10 @@
 ghost use Rattle.std.specs.Prelude.{◌≤◌, ◌<◌, length};
 
 use crate::lent::{Lent, RANGE, number, store, value, with_memo};
-use memo::{Entry, Interval, Memo, Table};
+use memo::Memo;
 use std::fmt::{self, Display, Formatter, Write};
 use std::io;
+use table::{Entry, Interval, Table};
 use words::Bitset;
 
 // A store of a run: three words of the key, the bounds, the best move (`_` for none) and the nodes, a byte for each.
