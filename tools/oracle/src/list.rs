@@ -217,7 +217,7 @@ pub fn check(text: &str, with_reference: bool, with_rust: bool) -> bool {
 }
 
 /// What the reader gives of a sheet: the size, the number of rows and a hash of
-/// them, each packed as crates/sheet/specs/Packed.antt says; or the refusal.
+/// them, each packed as crates/rows/specs/Packed.antt says; or the refusal.
 fn reading(text: &[u8]) -> String {
     match sheet::read(text) {
         Ok(s) => {
