@@ -25,7 +25,7 @@ fn words_of(answer: Answer) -> [u64; 4]
 }
 
 // Writes the four words of an answer; what lies behind them is as before.
-pub fn encode(answer: Answer, out: &mut [u64])
+fn encode(answer: Answer, out: &mut [u64])
     requires { 4 ≤ length out.old }
     ensures { out.new ≡ encoded answer ++ drop 4 out.old }
 {

@@ -171,7 +171,7 @@ fn entries_of(j: usize) -> usize
 }
 
 // A line for each number of entries, with and without a dictionary, and for keys of two to four words.
-pub fn replay_all(rt: &impl Print, lent: &mut Lent) -> io::Result<()> {
+pub(crate) fn replay_all(rt: &impl Print, lent: &mut Lent) -> io::Result<()> {
     for i in 0..54 {
         let compact = i / 3 % 2 == 1;
         let seed = 88172645463325252 + i as u64;

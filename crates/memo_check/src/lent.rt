@@ -7,19 +7,19 @@ use table::{Entry, Interval, Table};
 use words::Bitset;
 
 // The bounds of every value.
-pub const RANGE: Interval = Interval {
+pub(crate) const RANGE: Interval = Interval {
     lo: -1000000.0,
     hi: 1000000.0,
 };
 
 // The words and tags of the largest memo.
-pub const WORDS: usize = 7168;
+pub(crate) const WORDS: usize = 7168;
 
-pub const TAGS: usize = 1024;
+pub(crate) const TAGS: usize = 1024;
 
 // Memory for the largest memo.
 #[derive(Drop)]
-pub struct Lent<'a> {
+pub(crate) struct Lent<'a> {
     pub words: &'a mut [u64],
     pub tags: &'a mut [u8],
     pub dict: &'a mut [u64],
@@ -54,21 +54,21 @@ fn work_in<R, F: FnOnce(&mut Memo) -> R>(
 }
 
 // The same in lent memory.
-pub fn with_memo<R, F: FnOnce(&mut Memo) -> R>(lent: &mut Lent, table: Table, work: F) -> R
+pub(crate) fn with_memo<R, F: FnOnce(&mut Memo) -> R>(lent: &mut Lent, table: Table, work: F) -> R
     requires { F.IsAlwaysCallable work }
 {
     work_in(lent.words, lent.tags, lent.dict, table, work)
 }
 
 // Stores an entry whose bounds lie in the range.
-pub fn store(memo: &mut Memo, key: Bitset, entry: Entry, nodes: u64) {
+pub(crate) fn store(memo: &mut Memo, key: Bitset, entry: Entry, nodes: u64) {
     if RANGE.contains(entry.bounds.lo) && RANGE.contains(entry.bounds.hi) {
         memo.store(RANGE, key, entry, nodes);
     }
 }
 
 // A whole number of size below span, by a number of a sequence.
-pub fn value(r: u64, span: u64) -> f64
+pub(crate) fn value(r: u64, span: u64) -> f64
     requires { (0 < span) × (span ≤ 1000001) }
 {
     let v = whole::of_i64((r % span) as i64);
@@ -76,6 +76,6 @@ pub fn value(r: u64, span: u64) -> f64
 }
 
 // A best move as a number, 32 ones for none: what the Rust's list has, which the hashes and the lines of the file stdout are of.
-pub fn number(best: Option<u64>) -> u64 {
+pub(crate) fn number(best: Option<u64>) -> u64 {
     best.unwrap_or(0xFFFF_FFFF)
 }
