@@ -90,7 +90,7 @@ fn setting(rt: &impl Env, i: usize) -> Option<u64> {
     number(argument(rt, i, &mut buf))
 }
 
-// The pieces of a chain, in place of its digits. (Not as in program `replay`, where each byte is a piece of any value.)
+// The pieces of a chain, in place of its digits. (Not as in program `fixed_list`, where each byte is a piece of any value.)
 fn pieces(text: &mut [u8]) -> Option<&[u8]> {
     if &*text == b"-".as_slice() {
         return Some(&[]);
