@@ -21,7 +21,7 @@ use Rattle.rules.specs.Choose.{Choice, no_move, no_child, key}
 use Rattle.rules.specs.Answer.{refusal_number, early}
 use Rattle.rules.specs.Call.{Request, Accepted, first_state, Searched, choice, answer_of, Result, untouched, leaving, ended, call}
 use Rattle.rules.specs.Conditions.{Condition, mixed, move_spills, auto_spills, endless, wide, deep}
-use Rattle.theory.proofs.Inputs.{First}
+use Rattle.theory.proofs.Inputs.{FirstRefusal}
 use Rattle.theory.proofs.Refusals.{unread_as, first_number, Because, by_sheet, by_input, by_state, call_searched, accepted_or_refused, refused_because, because_refused}
 use Rattle.rules.specs.Promise.{Means, Either, Leaves}
 use Rattle.theory.proofs.Demand3.{answer_means}
@@ -63,15 +63,15 @@ module _ (r : Request) where
 
   -- 4 TO 7: exactly where the sheet is read and its condition is the first that holds.
   pub refused_input : (x : Refusal) (l n : ℕ) → 4 ≤ refusal_number x → refusal_number x ≤ 7 → (call r).answer ≡ Refused x l n
-      → (net : Net) × (read_sheet r.sheet ≡ accepted net) × First net r x × (l ≡ 0) × (n ≡ 0)
+      → (net : Net) × (read_sheet r.sheet ≡ accepted net) × FirstRefusal net r x × (l ≡ 0) × (n ≡ 0)
   refused_input x l n h k e = go (refused_because r x l n e)
     where
-      go : Because r x l n → (net : Net) × (read_sheet r.sheet ≡ accepted net) × First net r x × (l ≡ 0) × (n ≡ 0)
+      go : Because r x l n → (net : Net) × (read_sheet r.sheet ≡ accepted net) × FirstRefusal net r x × (l ≡ 0) × (n ≡ 0)
       go (by_sheet a c) = absurd (omega (arith, (unread_as r.sheet x l a).0))
       go (by_input net a f b c) = (net, a, f, b, c)
       go (by_state net q A o a c) = absurd (omega (arith, (condition_number (state_condition A e)).0))
 
-  pub input_refused : (net : Net) (x : Refusal) → read_sheet r.sheet ≡ accepted net → First net r x → (call r).answer ≡ Refused x 0 0
+  pub input_refused : (net : Net) (x : Refusal) → read_sheet r.sheet ≡ accepted net → FirstRefusal net r x → (call r).answer ≡ Refused x 0 0
   input_refused net x e f = because_refused r x 0 0 (by_input net e f refl refl)
 
   -- 8 TO 12: only where the input is accepted and the condition is met in play from the start.

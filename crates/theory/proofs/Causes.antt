@@ -192,10 +192,10 @@ module _ (G : Game) (S : Settings G) (M : Lawful G S) where
         go (to q) e x k = test q (must_win && wins G s q) x k
 
     -- children of `p`
-    abbrev Real : List (Child Pos) → Type 0
-    Real c = (k : Child Pos) → k ∈ c → (k.move ∈ moves p) × (play p k.move ≡ to k.pos)
+    abbrev ChildrenOf : List (Child Pos) → Type 0
+    ChildrenOf c = (k : Child Pos) → k ∈ c → (k.move ∈ moves p) × (play p k.move ≡ to k.pos)
 
-    sift_halts : (s : Side) (c : List (Child Pos)) → Real c → Halts (Cause G (suc d) p) (sift G S s c)
+    sift_halts : (s : Side) (c : List (Child Pos)) → ChildrenOf c → Halts (Cause G (suc d) p) (sift G S s c)
     unfolding sift sifted
     sift_halts s [] h = tt
     sift_halts s (k ∷ c) h = go (lost s k.pos) refl (sift G S s c) (sift_halts s c (λ j i. h j (Memᴰ.tail i)))
@@ -213,7 +213,7 @@ module _ (G : Game) (S : Settings G) (M : Lawful G S) where
     filtered_halts s false (children c) h u = tt
 
     module _ (f : Search G S) (ih : BlamedSearch G S d f) where
-      row_blamed : (s : Side) (β : Value) (l : List (Child Pos)) → Real l → (α : Value) (b : Option (Best Value)) → Blamed G S (Cause G (suc d) p) (row G S f s β l α b)
+      row_blamed : (s : Side) (β : Value) (l : List (Child Pos)) → ChildrenOf l → (α : Value) (b : Option (Best Value)) → Blamed G S (Cause G (suc d) p) (row G S f s β l α b)
       unfolding row ended
       row_blamed s β [] h α b st = tt
       row_blamed s β (c ∷ l) h α b st =

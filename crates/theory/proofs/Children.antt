@@ -33,17 +33,17 @@ module _ (G : Game) (S : Settings G) (M : Lawful G S) (s : Side) (p : G.Pos) whe
     pub best : score next ≡ worst G (opp s)
 
   -- `q` is among the children `c`, or loses at once
-  abbrev pub Kept : List (Child Pos) → Pos → Type 0
-  Kept c q = ((k : Child Pos) × (k ∈ c) × (q ≡ k.pos)) ⊎ Forces G (opp s) (worst G s) q
+  abbrev pub KeptOrLoses : List (Child Pos) → Pos → Type 0
+  KeptOrLoses c q = ((k : Child Pos) × (k ∈ c) × (q ≡ k.pos)) ⊎ Forces G (opp s) (worst G s) q
 
-  kept_more : (k : Child Pos) (c : List (Child Pos)) (q : Pos) → Kept c q → Kept (k ∷ c) q
+  kept_more : (k : Child Pos) (c : List (Child Pos)) (q : Pos) → KeptOrLoses c q → KeptOrLoses (k ∷ c) q
   kept_more k c q (inl x) = inl (x.0, Memᴰ.tail x.1, x.2)
   kept_more k c q (inr f) = inr f
 
   -- `c` are the children by the moves `l`, but for some that lose at once
   pub record Children (l : List ℕ) (c : List (Child Pos)) : Type 0 where
     pub real : (k : Child Pos) → k ∈ c → (k.move ∈ l) × (play p k.move ≡ to k.pos)
-    pub covers : (t : ℕ) → t ∈ l → (q : Pos) × (play p t ≡ to q) × Kept c q
+    pub covers : (t : ℕ) → t ∈ l → (q : Pos) × (play p t ≡ to q) × KeptOrLoses c q
 
   abbrev pub Prepared : List ℕ → Expanded Pos → Type 0
   Prepared l (halted r) = Unit {0}
@@ -63,7 +63,7 @@ module _ (G : Game) (S : Settings G) (M : Lawful G S) (s : Side) (p : G.Pos) whe
       real k (inl y) = rw y (Memᴰ.head refl, e)
       real k (inr y) = let (i, f) = h.real k y in (Memᴰ.tail i, f)
 
-      covers : (u : ℕ) → (u ≡ t) ⊎ (u ∈ l) → (r : Pos) × (play p u ≡ to r) × Kept (new ∷ c) r
+      covers : (u : ℕ) → (u ≡ t) ⊎ (u ∈ l) → (r : Pos) × (play p u ≡ to r) × KeptOrLoses (new ∷ c) r
       covers u (inl y) = rw y (q, e, inl (new, Memᴰ.head refl, refl))
       covers u (inr y) = let (r, f, z) = h.covers u y in (r, f, kept_more new c r z)
 
@@ -85,7 +85,7 @@ module _ (G : Game) (S : Settings G) (M : Lawful G S) (s : Side) (p : G.Pos) whe
   -- what the filter leaves of the children `c`
   record Sifted (c d : List (Child Pos)) : Type 0 where
     from : (k : Child Pos) → k ∈ d → k ∈ c
-    kept : (k : Child Pos) → k ∈ c → Kept d k.pos
+    kept : (k : Child Pos) → k ∈ c → KeptOrLoses d k.pos
 
   abbrev SiftedTo : List (Child Pos) → Expanded Pos → Type 0
   SiftedTo c (halted r) = Unit {0}
@@ -102,7 +102,7 @@ module _ (G : Game) (S : Settings G) (M : Lawful G S) (s : Side) (p : G.Pos) whe
       from j (inl e) = Memᴰ.head e
       from j (inr i) = Memᴰ.tail (h.from j i)
 
-      kept : (j : Child Pos) → (j ≡ k) ⊎ (j ∈ c) → Kept (k ∷ d) j.pos
+      kept : (j : Child Pos) → (j ≡ k) ⊎ (j ∈ c) → KeptOrLoses (k ∷ d) j.pos
       kept j (inl e) = inl (j, Memᴰ.head e, refl)
       kept j (inr i) = kept_more k d j.pos (h.kept j i)
 
@@ -111,7 +111,7 @@ module _ (G : Game) (S : Settings G) (M : Lawful G S) (s : Side) (p : G.Pos) whe
   sift_drop k c (won t) f h = h
   sift_drop k c (children d) f h = record { from = λ j i. Memᴰ.tail (h.from j i); kept = λ j i. kept j (Memᴰ.cases_cons i) }
     where
-      kept : (j : Child Pos) → (j ≡ k) ⊎ (j ∈ c) → Kept d j.pos
+      kept : (j : Child Pos) → (j ≡ k) ⊎ (j ∈ c) → KeptOrLoses d j.pos
       kept j (inl e) = rw e (inr f)
       kept j (inr i) = h.kept j i
 
@@ -130,7 +130,7 @@ module _ (G : Game) (S : Settings G) (M : Lawful G S) (s : Side) (p : G.Pos) whe
   sift_prepared l c (won t) h k = absurd k
   sift_prepared l c (children d) h k = record { real = λ j i. h.real j (k.from j i); covers = λ t i. let (q, e, z) = h.covers t i in (q, e, go q z) }
     where
-      go : (q : Pos) → Kept c q → Kept d q
+      go : (q : Pos) → KeptOrLoses c q → KeptOrLoses d q
       go q (inl x) = rw x.2 (k.kept x.0 x.1)
       go q (inr f) = inr f
 
@@ -145,7 +145,7 @@ module _ (G : Game) (S : Settings G) (M : Lawful G S) (s : Side) (p : G.Pos) whe
   pub children_cap : (c : List (Child Pos)) (v : Value) → mover p ≡ some s → Children (moves p) c → Le G s (worst G s) v → ((k : Child Pos) → k ∈ c → Forces G (opp s) v k.pos) → Forces G (opp s) v p
   children_cap c v m h l f = reply G R m (λ t i. let (q, e, z) = h.covers t i in (q, e)) go
     where
-      kept : (q : Pos) → Kept c q → Forces G (opp s) v q
+      kept : (q : Pos) → KeptOrLoses c q → Forces G (opp s) v q
       kept q (inl x) = rw x.2 (f x.0 x.1)
       kept q (inr g) = weaken G R (flip_le G R l) g
 

@@ -99,23 +99,23 @@ module _ (G : Game) (S : Settings G) (M : Lawful G S) where
     played_exact t (to q) e st sound = fine_map G S M (λ x h. record { next = q; plays = e; exact = h }) (child_exact q (moves q) (play_real p t q real e) refl st sound)
 
     -- what the check of the moves `l` gives
-    record Found (v : Value) (l : List ℕ) (t : ℕ) (x : Value) : Type 0 where
+    record KeyFound (v : Value) (l : List ℕ) (t : ℕ) (x : Value) : Type 0 where
       here : t ∈ l
       is_value : x ≡ v
       leads : Leads G p t v
 
-    abbrev Checked : Value → List ℕ → Choice Value → Type 0
-    Checked v l no_move = ⊥
-    Checked v l no_child = (t : ℕ) → t ∈ l → Misses G p v t
-    Checked v l (key t x) = Found v l t x
+    abbrev ChoiceChecked : Value → List ℕ → Choice Value → Type 0
+    ChoiceChecked v l no_move = ⊥
+    ChoiceChecked v l no_child = (t : ℕ) → t ∈ l → Misses G p v t
+    ChoiceChecked v l (key t x) = KeyFound v l t x
 
-    check_sound : (v : Value) (l : List ℕ) (st : State S) → Sound G S M st.memo → Fine G S M (Checked v l) (check G S r p v l st)
+    check_sound : (v : Value) (l : List ℕ) (st : State S) → Sound G S M st.memo → Fine G S M (ChoiceChecked v l) (check G S r p v l st)
     unfolding check matched
     check_sound v [] st sound = record { sound = sound; gives = λ t i. absurd (Memᴰ.not-nil i) }
     check_sound v (t ∷ l) st sound =
         fine_then G S M _ _ st (played_exact t (play p t) refl st sound) (λ x z k h. match (check_sound v l) x h z k (eqv G x v) refl)
       where
-        further : (x : Value) → Leads G p t x → (x ≡ v → ⊥) → (k : Choice Value) → Checked v l k → Checked v (t ∷ l) k
+        further : (x : Value) → Leads G p t x → (x ≡ v → ⊥) → (k : Choice Value) → ChoiceChecked v l k → ChoiceChecked v (t ∷ l) k
         further x h ne no_move c = c
         further x h ne (key u y) c = record { here = Memᴰ.tail c.here; is_value = c.is_value; leads = c.leads }
         further x h ne no_child c = λ u i. miss u (Memᴰ.cases_cons i)
@@ -124,12 +124,12 @@ module _ (G : Game) (S : Settings G) (M : Lawful G S) where
             miss u (inl e) = rw e (x, h, ne)
             miss u (inr i) = c u i
 
-        match : ((z : State S) → Sound G S M z.memo → Fine G S M (Checked v l) (check G S r p v l z)) → (x : Value) → Leads G p t x → (z : State S) → Sound G S M z.memo →
-            (b : Bool) → eqv G x v ≡ b → Fine G S M (Checked v (t ∷ l)) (matched G S b t v (check G S r p v l) z)
+        match : ((z : State S) → Sound G S M z.memo → Fine G S M (ChoiceChecked v l) (check G S r p v l z)) → (x : Value) → Leads G p t x → (z : State S) → Sound G S M z.memo →
+            (b : Bool) → eqv G x v ≡ b → Fine G S M (ChoiceChecked v (t ∷ l)) (matched G S b t v (check G S r p v l) z)
         match rest x h z k true e = record { sound = k; gives = record { here = Memᴰ.head refl; is_value = refl; leads = rw (eqv_true x v e) at h } }
         match rest x h z k false e = fine_map G S M (further x h (eqv_false x v e)) (rest z k)
 
-    chosen_of : (s : Side) (v : Value) (l : List ℕ) → mover p ≡ some s → Exact G v p → ((t : ℕ) → t ∈ l → t ∈ moves p) → ((t : ℕ) → t ∈ moves p → t ∈ l) → (k : Choice Value) → Checked v l k → Chosen G p k
+    chosen_of : (s : Side) (v : Value) (l : List ℕ) → mover p ≡ some s → Exact G v p → ((t : ℕ) → t ∈ l → t ∈ moves p) → ((t : ℕ) → t ∈ moves p → t ∈ l) → (k : Choice Value) → ChoiceChecked v l k → Chosen G p k
     chosen_of s v l m x f g no_move c = absurd c
     chosen_of s v l m x f g no_child c = some_child G R s p v m x (λ t i. c t (g t i))
     chosen_of s v l m x f g (key t y) c = record { is_move = f t c.here; root_exact = rw c.is_value x; child_leads = rw c.is_value c.leads }
@@ -151,7 +151,7 @@ module _ (G : Game) (S : Settings G) (M : Lawful G S) where
     unfolding chosen
     chosen_sound st sound = started_sound (Chosen G p) no_move _ (λ e. e) (λ s v z m x y. fine_map G S M (all s v z m x) (check_sound v _ z y)) _ (moves p) st refl sound
       where
-        all : (s : Side) (v : Value) (z : State S) → mover p ≡ some s → Exact G v p → (k : Choice Value) → Checked v (remembered G S (moves p) (get z.memo p) ++ moves p) k → Chosen G p k
+        all : (s : Side) (v : Value) (z : State S) → mover p ≡ some s → Exact G v p → (k : Choice Value) → ChoiceChecked v (remembered G S (moves p) (get z.memo p) ++ moves p) k → Chosen G p k
         all s v z m x = chosen_of s v (first ++ moves p) m x (λ t i. either t (Memᴰ.append_cases first i)) (λ t i. Memᴰ.append_right first i)
           where
             first : List ℕ

@@ -134,12 +134,12 @@ module _ (G : Game) (S : Settings G) where
         go (short l e c) = rw e tt
 
   -- runs that are equal from a count within the budget, and stay within it where they give a value
-  record Level {A : Type 0} (b : Option ℕ) (f g : Run G S A) : Type 0 where
+  record SameWithin {A : Type 0} (b : Option ℕ) (f g : Run G S A) : Type 0 where
     equal : (st : State S) → Fits b st.nodes → f st ≡ g st
     fits : (st : State S) → Fits b st.nodes → Gives (λ a. Fits b (g st).1.nodes) (g st).0
 
   module _ (b : Option ℕ) where
-    level_then : {A C : Type 0} (f g : Run G S A) (h k : A → Run G S C) → Level b f g → ((a : A) → Level b (h a) (k a)) → Level b (then G S f h) (then G S g k)
+    level_then : {A C : Type 0} (f g : Run G S A) (h k : A → Run G S C) → SameWithin b f g → ((a : A) → SameWithin b (h a) (k a)) → SameWithin b (then G S f h) (then G S g k)
     unfolding then follow
     level_then {A} {C} f g h k l r = record { equal = λ st e. rw (l.equal st e) (go (g st).0 (g st).1 (l.fits st e)); fits = λ st e. gives (g st).0 (g st).1 (l.fits st e) }
       where
@@ -153,37 +153,37 @@ module _ (G : Game) (S : Settings G) where
         gives spent z e = tt
         gives (refused q) z e = tt
 
-    module _ (f g : Pos → Run G S Value) (ih : (p : Pos) → Level b (f p) (g p)) (p : Pos) where
-      child_level : (q : Pos) (l : List ℕ) → Level b (child_run G S f q l) (child_run G S g q l)
+    module _ (f g : Pos → Run G S Value) (ih : (p : Pos) → SameWithin b (f p) (g p)) (p : Pos) where
+      child_level : (q : Pos) (l : List ℕ) → SameWithin b (child_run G S f q l) (child_run G S g q l)
       unfolding child_run
       child_level q [] = record { equal = λ st e. refl; fits = λ st e. e }
       child_level q (t ∷ l) = record { equal = (ih q).equal; fits = (ih q).fits }
 
-      played_level : (y : Played Pos) → Level b (played_value G S f y) (played_value G S g y)
+      played_level : (y : Played Pos) → SameWithin b (played_value G S f y) (played_value G S g y)
       unfolding played_value
       played_level (stopped x) = record { equal = λ st e. refl; fits = λ st e. tt }
       played_level (to q) = record { equal = (child_level q (moves q)).equal; fits = (child_level q (moves q)).fits }
 
-      check_level : (v : Value) (l : List ℕ) → Level b (check G S f p v l) (check G S g p v l)
+      check_level : (v : Value) (l : List ℕ) → SameWithin b (check G S f p v l) (check G S g p v l)
       unfolding check matched
       check_level v [] = record { equal = λ st e. refl; fits = λ st e. e }
       check_level v (t ∷ l) = level_then _ _ _ _ (played_level (play p t)) (λ x. match (check_level v l) (eqv G x v))
         where
-          match : Level b (check G S f p v l) (check G S g p v l) → (x : Bool) → Level b (matched G S x t v (check G S f p v l)) (matched G S x t v (check G S g p v l))
+          match : SameWithin b (check G S f p v l) (check G S g p v l) → (x : Bool) → SameWithin b (matched G S x t v (check G S f p v l)) (matched G S x t v (check G S g p v l))
           match rest true = record { equal = λ st e. refl; fits = λ st e. e }
           match rest false = record { equal = rest.equal; fits = rest.fits }
 
-      started_level : {A : Type 0} (a : A) (h k : Value → Run G S A) → ((v : Value) → Level b (h v) (k v)) → (c : Bool) (l : List ℕ) → Level b (started G S f a h p c l) (started G S g a k p c l)
+      started_level : {A : Type 0} (a : A) (h k : Value → Run G S A) → ((v : Value) → SameWithin b (h v) (k v)) → (c : Bool) (l : List ℕ) → SameWithin b (started G S f a h p c l) (started G S g a k p c l)
       unfolding started root
       started_level a h k e c [] = record { equal = λ st e. refl; fits = λ st e. e }
       started_level a h k e true (t ∷ l) = record { equal = λ st e. refl; fits = λ st e. tt }
       started_level {A} a h k e false (t ∷ l) = go (mover p)
         where
-          go : (o : Option Side) → Level b (root G S f h p o) (root G S g k p o)
+          go : (o : Option Side) → SameWithin b (root G S f h p o) (root G S g k p o)
           go none = record { equal = λ st e. refl; fits = λ st e. tt }
           go (some s) = level_then _ _ _ _ (ih p) e
 
-      chosen_level : Level b (chosen G S f p) (chosen G S g p)
+      chosen_level : SameWithin b (chosen G S f p) (chosen G S g p)
       unfolding chosen
       chosen_level = started_level no_move _ _ (λ v. record {
         equal = λ z. (check_level v (remembered G S (moves p) (get z.memo p) ++ moves p)).equal z;

@@ -82,8 +82,8 @@ without : (d : ℕ) (l : List ℕ) → d ∈ l → (k : List ℕ) × (length l �
 without d [] i = absurd (Memᴰ.not-nil i)
 without d (y ∷ l) i = go (without d l) (Memᴰ.cases_cons i)
   where
-    Rest : List ℕ → Type 0
-    Rest z = (k : List ℕ) × (length z ≡ suc (length k)) × ((x : ℕ) → x ∈ z → (x ≡ d → ⊥) → x ∈ k)
+    WithoutOne : List ℕ → Type 0
+    WithoutOne z = (k : List ℕ) × (length z ≡ suc (length k)) × ((x : ℕ) → x ∈ z → (x ≡ d → ⊥) → x ∈ k)
 
     here : d ≡ y → (x : ℕ) → (x ≡ y) ⊎ (x ∈ l) → (x ≡ d → ⊥) → x ∈ l
     here e x (inl k) ne = absurd (ne (k ∙ sym e))
@@ -93,7 +93,7 @@ without d (y ∷ l) i = go (without d l) (Memᴰ.cases_cons i)
     there k f x (inl e) ne = Memᴰ.head e
     there k f x (inr j) ne = Memᴰ.tail (f x j ne)
 
-    go : (d ∈ l → Rest l) → (d ≡ y) ⊎ (d ∈ l) → Rest (y ∷ l)
+    go : (d ∈ l → WithoutOne l) → (d ≡ y) ⊎ (d ∈ l) → WithoutOne (y ∷ l)
     go below (inl e) = (l, refl, λ x j ne. here e x (Memᴰ.cases_cons j) ne)
     go below (inr j) = let (k, n, f) = below j in (y ∷ k, omega arith, λ x j ne. there k f x (Memᴰ.cases_cons j) ne)
 

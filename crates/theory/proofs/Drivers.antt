@@ -17,7 +17,7 @@ use Rattle.rules.specs.Forces.{Forces, floor, final, Exact}
 use Rattle.theory.specs.Ends.{Lt}
 use Rattle.theory.proofs.Order.{le_refl, le_or_lt, le_lt_trans, lt_le_trans, flip_le, unflip_le, flip_lt}
 use Rattle.theory.proofs.Forces.{round, consistent, exact_of}
-use Rattle.theory.proofs.Answer.{Certified, Answer, open_window, answer_own, answer_other, Sound, get_certified, Fine, fine_map, fine_then, SoundSearch}
+use Rattle.theory.proofs.Answer.{Certified, WindowSays, open_window, answer_own, answer_other, Sound, get_certified, Fine, fine_map, fine_then, SoundSearch}
 use Rattle.theory.proofs.Scale.{rung_lt, rung_le_inv, rung_worst, rung_best, next_rung, previous_rung, onward_low, onward_high, below_spec, upto_spec, upto_most, rise, fall}
 use Rattle.theory.proofs.Laws.{Lawful, Scaled, Driven}
 
@@ -67,7 +67,7 @@ module _ (G : Game) (S : Settings G) (M : Lawful G S) where
         αβ : Lt G s α β
         αβ = rung_lt G R σ T s n (suc n) (omega arith) here
 
-        go : (Forces G s β p → ExactRun p (scout_from G S σ f p s r (suc n))) → (v : Value) (z : State S) → Sound G S M z.memo → Answer G (window s α β) p v → (x : Bool) → onward G σ s (window s α β) v ≡ x →
+        go : (Forces G s β p → ExactRun p (scout_from G S σ f p s r (suc n))) → (v : Value) (z : State S) → Sound G S M z.memo → WindowSays G (window s α β) p v → (x : Bool) → onward G σ s (window s α β) v ≡ x →
             Fine G S M (λ u. Exact G u p) (stepped G S x α (scout_from G S σ f p s r (suc n)) z)
         go rest v z k a true o = rest (round G R (λ c end l. next_rung G R σ T s n c here end (lt_le_trans G R (passed (le_or_lt G R s v α)) l)) (answer_own G R s α β a (passed (le_or_lt G R s v α)))) z k
           where
@@ -89,7 +89,7 @@ module _ (G : Game) (S : Settings G) (M : Lawful G S) where
         Rest : Type 0
         Rest = (i j : ℕ) → i ≤ j → j ≤ gaps → j - i ≤ r → Forces G max (at i) p → Forces G min (at j) p → ExactRun p (mtd_from G S σ f p r i j)
 
-        next : Rest → (k : ℕ) → i ≤ k → suc k ≤ j → (v : Value) (z : State S) → Sound G S M z.memo → Answer G (record { lo = at k; hi = at (suc k) }) p v → (x : Bool) → leb (at (suc k)) v ≡ x →
+        next : Rest → (k : ℕ) → i ≤ k → suc k ≤ j → (v : Value) (z : State S) → Sound G S M z.memo → WindowSays G (record { lo = at k; hi = at (suc k) }) p v → (x : Bool) → leb (at (suc k)) v ≡ x →
             Fine G S M (λ u. Exact G u p) (mtd_next G S σ x v i j (mtd_from G S σ f p r) z)
         next rest k ik kj v z sd a true e =
             let kv : Lt G max (at k) v = lt_le_trans G R (rung_lt G R σ T max k (suc k) (omega arith) (omega arith)) (record { holds = e }) in
@@ -134,7 +134,7 @@ module _ (G : Game) (S : Settings G) (M : Lawful G S) where
 
   module _ (p : Pos) (real : Real p) where
     -- an answer to the window of the bounds is exact
-    answer_whole : (v : Value) → Answer G (record { lo = low; hi = high }) p v → Exact G v p
+    answer_whole : (v : Value) → WindowSays G (record { lo = low; hi = high }) p v → Exact G v p
     answer_whole v a = λ s. go s
       where
         at_max : Le G max v low ⊎ Lt G max low v → Forces G max v p

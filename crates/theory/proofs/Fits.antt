@@ -42,12 +42,12 @@ module _ (net : Net) where
 
   -- what the test says of one position
 
-  pub record Fit (d : ℕ) (m : Marking) : Type 0 where
+  pub record Playable (d : ℕ) (m : Marking) : Type 0 where
     pub narrow : length (moves net m) ≤ max_moves
     pub side : sided (moves net m) (mover net m) ≡ true
     pub next : (t : ℕ) → t ∈ moves net m → (q : Marking) × (play net m t ≡ to q) × (fits d q ≡ true)
 
-  pub fit : (d : ℕ) (m : Marking) → fits (suc d) m ≡ true → Fit d m
+  pub fit : (d : ℕ) (m : Marking) → fits (suc d) m ≡ true → Playable d m
   unfolding fits
   fit d m e =
       let (a, c) = and_true _ (all (λ t. leads (fits d) (play net m t)) (moves net m)) e in
@@ -69,7 +69,7 @@ module _ (net : Net) where
       go (t ∷ l) k (some s) h e = (s, mover_side net m s h)
 
   -- the end of a line from a position that fits does too, at the depth that is left
-  line_fits : {p q : Marking} {l : List ℕ} → Line net p l q → (d : ℕ) → fits d p ≡ true → (e : ℕ) × (length l + suc e ≡ d) × Fit e q
+  line_fits : {p q : Marking} {l : List ℕ} → Line net p l q → (d : ℕ) → fits d p ≡ true → (e : ℕ) × (length l + suc e ≡ d) × Playable e q
   unfolding fits
   line_fits here zero h = absurd (true≢false (cc))
   line_fits {p} here (suc d) h = (d, omega arith, fit d p h)

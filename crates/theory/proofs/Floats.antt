@@ -23,20 +23,20 @@ use Rattle.theory.proofs.MemoInStep.{Codes, SameMemo, memo_in_step}
 use Rattle.theory.proofs.Laws.{Rules}
 
 -- between two integers, and small
-pub record Ranged (low high z : ℤ) : Type 0 where
+pub record SmallBetween (low high z : ℤ) : Type 0 where
   pub is_small : Small z
   pub from_low : le_z low z ≡ true
   pub to_high : le_z z high ≡ true
 
 -- a word that is the bits of such an integer reads as it, and as its f64
 
-pub int_reads : {low high z : ℤ} → Ranged low high z → int_number low high (int_bits z) ≡ some z
+pub int_reads : {low high z : ℤ} → SmallBetween low high z → int_number low high (int_bits z) ≡ some z
 unfolding int_number int_bits
 int_reads {z} h =
     let w = whole h.is_small in
     rw (bits_back w, whole_to_signed w, eq-eqb (to_bits binary64 (whole_f z)) (to_bits binary64 (whole_f z)) refl, h.from_low, h.to_high) refl
 
-float_reads : {low high z : ℤ} {x y : Float} → Whole x low → Whole y high → Ranged low high z → float_number x y (int_bits z) ≡ some (whole_f z)
+float_reads : {low high z : ℤ} {x y : Float} → Whole x low → Whole y high → SmallBetween low high z → float_number x y (int_bits z) ≡ some (whole_f z)
 unfolding float_number int_bits
 float_reads v u h =
     let w = whole h.is_small in
@@ -54,7 +54,7 @@ module _ (P : Game) (score : P.Pos → ℤ) (low high : ℤ) (float_score : P.Po
   -- `x` is the integer `z`, which lies between the bounds
   pub record Stands (z : ℤ) (x : Float) : Type 0 where
     pub is_whole : Whole x z
-    pub ranged : Ranged low high z
+    pub ranged : SmallBetween low high z
 
   module _ (R : Rules Z) where
     end_small : {z : ℤ} → End Z z → Small z
@@ -62,7 +62,7 @@ module _ (P : Game) (score : P.Pos → ℤ) (low high : ℤ) (float_score : P.Po
     end_small (bound min) = high_whole.small
     end_small (scored p) = (score_whole p).small
 
-    pub end_ranged : {z : ℤ} → End Z z → Ranged low high z
+    pub end_ranged : {z : ℤ} → End Z z → SmallBetween low high z
     end_ranged e = record { is_small = end_small e; from_low = (end_inside Z R e max).holds; to_high = (end_inside Z R e min).holds }
 
     floats_related : Related Z W Stands
@@ -83,7 +83,7 @@ module _ (P : Game) (score : P.Pos → ℤ) (low high : ℤ) (float_score : P.Po
     floats_scaled gaps at FloatAt h = record { gaps_same = refl; at_rel = h; above_same = λ a b v x y u k l n. sym (midpoint_lt k.is_whole l.is_whole n.is_whole) }
 
     module _ (s : Shape) (key : P.Pos → List ℕ) where
-      pub floats_coded : Codes s Z W (int_code low high) (float_code float_low float_high) key (Ranged low high) Stands
+      pub floats_coded : Codes s Z W (int_code low high) (float_code float_low float_high) key (SmallBetween low high) Stands
       floats_coded = record {
         rel_ok = λ z x h. h.ranged;
         bits_same = bits_of;
@@ -91,7 +91,7 @@ module _ (P : Game) (score : P.Pos → ℤ) (low high : ℤ) (float_score : P.Po
       }
 
       -- The memo is the same over integers and over f64.
-      pub floats_in_step : (Real : P.Pos → Type 0) → Fitted s Z (int_code low high) key (Ranged low high) Real →
+      pub floats_in_step : (Real : P.Pos → Type 0) → Fitted s Z (int_code low high) key (SmallBetween low high) Real →
           InStep Z W (memory s Z (int_code low high) key) (memory s (valued Z W) (float_code float_low float_high) key) Stands
-          (SameMemo s Z (int_code low high) key (Ranged low high)) Real
-      floats_in_step Real F = memo_in_step s Z W (int_code low high) (float_code float_low float_high) key (Ranged low high) Stands floats_related floats_coded Real F R
+          (SameMemo s Z (int_code low high) key (SmallBetween low high)) Real
+      floats_in_step Real F = memo_in_step s Z W (int_code low high) (float_code float_low float_high) key (SmallBetween low high) Stands floats_related floats_coded Real F R

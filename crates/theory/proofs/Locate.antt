@@ -58,38 +58,38 @@ module _ (s : Shape) (ways : 0 < s.ways) (buckets : 0 < s.buckets) (m : Memo) wh
         record { tagged = eqb-true _ t c; keyed = words_equal _ _ d }
 
     -- what a look at the rows from `b` to `e` finds
-    abbrev Within : ℕ → ℕ → ℕ → Look → Type 0
-    Within t b e (hit i) = (b ≤ i) × (i < e) × Match t i
-    Within t b e (free i) = (b ≤ i) × (i < e)
-    Within t b e full = Unit {0}
+    abbrev LookWithin : ℕ → ℕ → ℕ → Look → Type 0
+    LookWithin t b e (hit i) = (b ≤ i) × (i < e) × Match t i
+    LookWithin t b e (free i) = (b ≤ i) × (i < e)
+    LookWithin t b e full = Unit {0}
 
-    scan_within : (t n b : ℕ) → Within t b (b + n) (scan s m k t n b)
+    scan_within : (t n b : ℕ) → LookWithin t b (b + n) (scan s m k t n b)
     unfolding scan seen
     scan_within t zero b = tt
     scan_within t (suc n) b = go (scan s m k t n (suc b)) (scan_within t n (suc b)) (holds s m k t b) refl (eqb (get_or m.tags b 0) 0)
       where
-        wider : (x : Look) → Within t (suc b) (suc b + n) x → Within t b (b + suc n) x
+        wider : (x : Look) → LookWithin t (suc b) (suc b + n) x → LookWithin t b (b + suc n) x
         wider (hit i) (l, h, d) = (omega arith, omega arith, d)
         wider (free i) (l, h) = (omega arith, omega arith)
         wider full h = tt
 
-        here : (x : Look) → Within t (suc b) (suc b + n) x → Within t b (b + suc n) (seen false true b x)
+        here : (x : Look) → LookWithin t (suc b) (suc b + n) x → LookWithin t b (b + suc n) (seen false true b x)
         here (hit i) h = wider (hit i) h
         here (free i) h = (omega arith, omega arith)
         here full h = (omega arith, omega arith)
 
-        go : (x : Look) → Within t (suc b) (suc b + n) x → (y : Bool) → holds s m k t b ≡ y → (z : Bool) → Within t b (b + suc n) (seen y z b x)
+        go : (x : Look) → LookWithin t (suc b) (suc b + n) x → (y : Bool) → holds s m k t b ≡ y → (z : Bool) → LookWithin t b (b + suc n) (seen y z b x)
         go x h true e z = (omega arith, omega arith, holds_match t b e)
         go x h false e true = here x h
         go x h false e false = wider x h
 
     -- a look that ends at a row
-    abbrev Ends : Look → Type 0
-    Ends (hit i) = Unit {0}
-    Ends (free i) = Unit {0}
-    Ends full = ⊥
+    abbrev AtRow : Look → Type 0
+    AtRow (hit i) = Unit {0}
+    AtRow (free i) = Unit {0}
+    AtRow full = ⊥
 
-    seen_ends : (x y : Bool) (b : ℕ) (r : Look) → (y ≡ true) ⊎ Ends r → Ends (seen x y b r)
+    seen_ends : (x y : Bool) (b : ℕ) (r : Look) → (y ≡ true) ⊎ AtRow r → AtRow (seen x y b r)
     unfolding seen
     seen_ends true y b r h = tt
     seen_ends false true b (hit i) h = tt
@@ -99,12 +99,12 @@ module _ (s : Shape) (ways : 0 < s.ways) (buckets : 0 < s.buckets) (m : Memo) wh
     seen_ends false false b r (inr h) = h
 
     -- rows of which one is free
-    scan_ends : (t n b j : ℕ) → b ≤ j → j < b + n → get_or m.tags j 0 ≡ 0 → Ends (scan s m k t n b)
+    scan_ends : (t n b j : ℕ) → b ≤ j → j < b + n → get_or m.tags j 0 ≡ 0 → AtRow (scan s m k t n b)
     unfolding scan
     scan_ends t zero b j l h e = absurd (omega arith)
     scan_ends t (suc n) b j l h e = seen_ends (holds s m k t b) (eqb (get_or m.tags b 0) 0) b (scan s m k t n (suc b)) (go (ℕ_discrete b j) (λ (g : suc b ≤ j). scan_ends t n (suc b) j g (omega arith) e))
       where
-        go : Dec (b ≡ j) → (suc b ≤ j → Ends (scan s m k t n (suc b))) → (eqb (get_or m.tags b 0) 0 ≡ true) ⊎ Ends (scan s m k t n (suc b))
+        go : Dec (b ≡ j) → (suc b ≤ j → AtRow (scan s m k t n (suc b))) → (eqb (get_or m.tags b 0) 0 ≡ true) ⊎ AtRow (scan s m k t n (suc b))
         go (yes z) f = inl (rw (z, e) refl)
         go (no ne) f = inr (f (omega arith))
 
@@ -123,18 +123,18 @@ module _ (s : Shape) (ways : 0 < s.ways) (buckets : 0 < s.buckets) (m : Memo) wh
         t : ℕ
         t = tag s (mix k)
 
-        go : (x : Look) → Within t (bucket s (mix k)) (bucket s (mix k) + s.ways) x → Ends x → InFirst (or_look x (scan s m k t s.ways (bucket s (remix (mix k)))))
+        go : (x : Look) → LookWithin t (bucket s (mix k)) (bucket s (mix k) + s.ways) x → AtRow x → InFirst (or_look x (scan s m k t s.ways (bucket s (remix (mix k)))))
         go (hit i) (a, b, d) o = (a, b)
         go (free i) w o = w
         go full w o = absurd o
 
     -- What the memo finds: a row with the key, a free row, or neither.
-    abbrev pub Found : Look → Type 0
-    Found (hit i) = (i < rows s) × Match (tag s (mix k)) i
-    Found (free i) = i < rows s
-    Found full = Unit {0}
+    abbrev pub LookFound : Look → Type 0
+    LookFound (hit i) = (i < rows s) × Match (tag s (mix k)) i
+    LookFound (free i) = i < rows s
+    LookFound full = Unit {0}
 
-    pub locate_found : Found (locate s m k)
+    pub locate_found : LookFound (locate s m k)
     unfolding locate or_look
     locate_found = go (scan s m k t s.ways (bucket s h)) (scan_within t s.ways (bucket s h))
       where
@@ -144,12 +144,12 @@ module _ (s : Shape) (ways : 0 < s.ways) (buckets : 0 < s.buckets) (m : Memo) wh
         t : ℕ
         t = tag s h
 
-        found : (g : ℕ) → g < 2 ^ 64 → (x : Look) → Within t (bucket s g) (bucket s g + s.ways) x → Found x
+        found : (g : ℕ) → g < 2 ^ 64 → (x : Look) → LookWithin t (bucket s g) (bucket s g + s.ways) x → LookFound x
         found g l (hit i) (a, b, d) = (bucket_row g i l b, d)
         found g l (free i) (a, b) = bucket_row g i l b
         found g l full w = tt
 
-        go : (x : Look) → Within t (bucket s h) (bucket s h + s.ways) x → Found (or_look x (scan s m k t s.ways (bucket s (remix h))))
+        go : (x : Look) → LookWithin t (bucket s h) (bucket s h + s.ways) x → LookFound (or_look x (scan s m k t s.ways (bucket s (remix h))))
         go (hit i) w = found h (mix_lt k) (hit i) w
         go (free i) w = found h (mix_lt k) (free i) w
         go full w = found (remix h) (remix_lt h) (scan s m k t s.ways (bucket s (remix h))) (scan_within t s.ways (bucket s (remix h)))
@@ -163,7 +163,7 @@ module _ (s : Shape) (ways : 0 < s.ways) (buckets : 0 < s.buckets) (m : Memo) wh
         go true = f j (Memᴰ.head refl)
         go false = h
 
-    pub slot_row : (x : Look) → Found x → slot s m k x < rows s
+    pub slot_row : (x : Look) → LookFound x → slot s m k x < rows s
     unfolding slot
     slot_row (hit i) w = w.0
     slot_row (free i) w = w

@@ -8,7 +8,7 @@ use Prim.Native.Nat.{ℕ}
 use Rattle.rules.specs.Game.{Game, Values, valued}
 use Rattle.rules.specs.Search.{Entry, merge}
 use Rattle.rules.specs.Memo.{or_else, Shape, Memo, Code, Look, hit, free, full, bound_word, locate, number_at, read, found, memo_get, kept, memo_store, memory}
-use Rattle.theory.proofs.Locate.{Found, locate_found}
+use Rattle.theory.proofs.Locate.{LookFound, locate_found}
 use Rattle.theory.proofs.Memo.{Fitted, Well, Reads, matched_taken, store_well}
 use Rattle.theory.proofs.Simulation.{Both, Entries, Related, meet_rel, InStep}
 use Rattle.theory.proofs.Laws.{Rules}
@@ -38,7 +38,7 @@ module _ (s : Shape) (G : Game) (W : Values G.Pos) (C : Code G.Value) (D : Code 
     bound_rel m i shift at a x (v, e, h) = let (y, k, r) = number_rel v e in rw (h, number_bits v e, k) r
 
     module _ (m : Memo) (w : Well s G C key Ok m) (p : G.Pos) (real : Real p) where
-      found_rel : (l : Look) → Found s some_way some_bucket m (key p) l → Both (Entries Rel) (found s G C m (G.moves p) l) (found s H D m (H.moves p) l)
+      found_rel : (l : Look) → LookFound s some_way some_bucket m (key p) l → Both (Entries Rel) (found s G C m (G.moves p) l) (found s H D m (H.moves p) l)
       unfolding found read
       found_rel (hit i) (l, f) =
           let (a, b) = w.row_reads i l (matched_taken s G C key Ok Real F R m w p i f) in

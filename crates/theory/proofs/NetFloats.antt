@@ -27,7 +27,7 @@ use Rattle.rules.specs.Codes.{float_values}
 use Rattle.rules.specs.Drivers.{single, scout, mtd}
 use Rattle.rules.specs.NetGame.{low, high, int_game, int_scale, float_game, float_scale, driver_of}
 use Rattle.theory.proofs.InStep.{Scales, Drivers}
-use Rattle.theory.proofs.Floats.{Ranged, Stands, floats_scaled}
+use Rattle.theory.proofs.Floats.{SmallBetween, Stands, floats_scaled}
 use Rattle.theory.proofs.Integers.{le_le_z}
 use Rattle.theory.proofs.Sums.{Sum, none, without, with, lowest_sum, sum_highest, sum_lowest, sum_of_highest}
 use Rattle.theory.proofs.Values.{values_listed}
@@ -56,7 +56,7 @@ module _ (net : Net) (L : NetLimits net) where
       let few : length (rewards net) ≤ max_rows = rw (length-map (rows_of net pay) (λ r. r.n)) L.few_pays in
       record { size = omega (arith, sum_size max_number s reward_size, mul-le-mul_left max_number few) }
 
-  pub sum_ranged : {z : ℤ} → Sum (rewards net) z → Ranged (low net) (high net) z
+  pub sum_ranged : {z : ℤ} → Sum (rewards net) z → SmallBetween (low net) (high net) z
   sum_ranged s = record { is_small = sum_small s; from_low = le_le_z (lowest_sum s); to_high = le_le_z (sum_highest s) }
 
   pub score_whole : (m : Marking) → Whole (whole_f (score net m)) (score net m)

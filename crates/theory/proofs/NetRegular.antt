@@ -12,7 +12,7 @@ use Rattle.rules.specs.Play.{Marking, moves, mover}
 use Rattle.rules.specs.Premises.{Premises}
 use Rattle.rules.specs.NetGame.{int_game, levels}
 use Rattle.theory.specs.Regular.{Turn, Regular}
-use Rattle.theory.proofs.Fits.{sided, fits, Fit, fit, premises_fits}
+use Rattle.theory.proofs.Fits.{sided, fits, Playable, fit, premises_fits}
 
 module _ (net : Net) where
   fits_regular : (d : ℕ) (m : Marking) → fits net d m ≡ true → Regular (int_game net) d m
@@ -20,7 +20,7 @@ module _ (net : Net) where
   fits_regular zero m e = absurd (true≢false (cc))
   fits_regular (suc d) m e = let f = fit net d m e in record { narrow = f.narrow; turn = go f (fits_regular d) (moves net m) refl (mover net m) refl f.side }
     where
-      go : Fit net d m → ((q : Marking) → fits net d q ≡ true → Regular (int_game net) d q) → (l : List ℕ) → moves net m ≡ l → (o : Option Side) → mover net m ≡ o → sided l o ≡ true
+      go : Playable net d m → ((q : Marking) → fits net d q ≡ true → Regular (int_game net) d q) → (l : List ℕ) → moves net m ≡ l → (o : Option Side) → mover net m ≡ o → sided l o ≡ true
           → (moves net m ≡ []) ⊎ Turn (int_game net) (Regular (int_game net) d) m
       go f below [] k o h s = inl k
       go f below (t ∷ l) k none h s = absurd (true≢false (cc))

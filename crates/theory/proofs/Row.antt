@@ -14,7 +14,7 @@ use Rattle.rules.specs.Forces.{Forces, own}
 use Rattle.theory.specs.Ends.{Lt, End}
 use Rattle.theory.proofs.Order.{le_refl, le_trans, lt_le, lt_not_le, le_lt_trans, flip_le, pick_elim}
 use Rattle.theory.proofs.Forces.{weaken}
-use Rattle.theory.proofs.Answer.{Answer, Flat, Gap, flat_forces, open_window, answer_own, answer_other, Sound, Fine, fine_map, fine_then, SoundSearch}
+use Rattle.theory.proofs.Answer.{WindowSays, Flat, Gap, flat_forces, open_window, answer_own, answer_other, Sound, Fine, fine_map, fine_then, SoundSearch}
 use Rattle.theory.proofs.Laws.{Lawful}
 
 module _ (G : Game) (S : Settings G) (M : Lawful G S) where
@@ -39,9 +39,9 @@ module _ (G : Game) (S : Settings G) (M : Lawful G S) where
     Grows (some b) c = Reaches b.best_value c
 
     -- a best that passes alpha is forced; it is an end of play, by a move of `p`
-    abbrev pub Held : Option (Best Value) → Type 0
-    Held none = Unit {0}
-    Held (some b) = (Lt G s α₀ b.best_value → Forces G s b.best_value p) × End G b.best_value × (b.best_move ∈ moves p)
+    abbrev pub BestForced : Option (Best Value) → Type 0
+    BestForced none = Unit {0}
+    BestForced (some b) = (Lt G s α₀ b.best_value → Forces G s b.best_value p) × End G b.best_value × (b.best_move ∈ moves p)
 
     -- a best that stays below beta is not passed at `q`
     abbrev pub Caps : Pos → Option (Best Value) → Type 0
@@ -83,12 +83,12 @@ module _ (G : Game) (S : Settings G) (M : Lawful G S) where
         go true e = le_refl G R
         go false e = lt_le G R (record { holds = e })
 
-    improve_held : (b : Option (Best Value)) (v : Value) (t : ℕ) → Held b → (Lt G s α₀ v → Beats b v → Forces G s v p) → End G v → t ∈ moves p → Held (improve G S s b v t)
+    improve_held : (b : Option (Best Value)) (v : Value) (t : ℕ) → BestForced b → (Lt G s α₀ v → Beats b v → Forces G s v p) → End G v → t ∈ moves p → BestForced (improve G S s b v t)
     unfolding improve
     improve_held none v t h f i j = (λ l. f l tt, i, j)
     improve_held (some b) v t h f i j = go (leq G s v b.best_value) refl
       where
-        go : (x : Bool) → leq G s v b.best_value ≡ x → Held (some (cond x b (record { best_value = v; best_move = t })))
+        go : (x : Bool) → leq G s v b.best_value ≡ x → BestForced (some (cond x b (record { best_value = v; best_move = t })))
         go true e = h
         go false e = (λ l. f l (record { holds = e }), i, j)
 
@@ -109,7 +109,7 @@ module _ (G : Game) (S : Settings G) (M : Lawful G S) where
 
     -- what a row gives: its best, for the children `l` and the best `b` that it began with
     pub record Rowed (l : List (Child Pos)) (b c : Option (Best Value)) : Type 0 where
-      pub held : Held c
+      pub held : BestForced c
       pub grows : Grows b c
       pub caps : (k : Child Pos) → k ∈ l → Caps k.pos c
 
@@ -122,18 +122,18 @@ module _ (G : Game) (S : Settings G) (M : Lawful G S) where
     past_beta q v none l r = r
     past_beta q v (some b) l r = λ h. absurd (lt_not_le G R h (le_trans G R l r))
 
-    flat_caps : Flat G → (q : Pos) (v : Value) (c : Option (Best Value)) → Held c → Reaches v c → Caps q c
+    flat_caps : Flat G → (q : Pos) (v : Value) (c : Option (Best Value)) → BestForced c → Reaches v c → Caps q c
     flat_caps h q v none i r = r
     flat_caps h q v (some b) i r = λ l. flat_forces G R h (opp s) i.1
 
     -- a row of the children `l` is sound
     abbrev pub SoundRow : List (Child Pos) → (Value → Option (Best Value) → Run G S (Option (Best Value))) → Type 0
-    SoundRow l r = (α : Value) (b : Option (Best Value)) (st : State S) → Sound G S M st.memo → Gap G s α β → Gate α b → Held b → Fine G S M (Rowed l b) (r α b st)
+    SoundRow l r = (α : Value) (b : Option (Best Value)) (st : State S) → Sound G S M st.memo → Gap G s α β → Gate α b → BestForced b → Fine G S M (Rowed l b) (r α b st)
 
     module _ (m : mover p ≡ some s) (here : Real p) where
       ended_sound : (c : Child Pos) (l : List (Child Pos)) (r : Value → Option (Best Value) → Run G S (Option (Best Value))) →
           c.move ∈ moves p → play p c.move ≡ to c.pos → SoundRow l r →
-          (α : Value) (b : Option (Best Value)) (v : Value) (st : State S) → Gap G s α β → Gate α b → Held b → Sound G S M st.memo → Answer G (window s α β) c.pos v →
+          (α : Value) (b : Option (Best Value)) (v : Value) (st : State S) → Gap G s α β → Gate α b → BestForced b → Sound G S M st.memo → WindowSays G (window s α β) c.pos v →
           Fine G S M (Rowed (c ∷ l) b) (ended G S (leq G s β (pick G s α v)) c.move r (pick G s α v) (improve G S s b v c.move) st)
       unfolding ended
       ended_sound c l r i e rest α b v st αβ gate held sound a = go (leq G s β (pick G s α v)) refl
@@ -144,7 +144,7 @@ module _ (G : Game) (S : Settings G) (M : Lawful G S) where
           b' : Option (Best Value)
           b' = improve G S s b v t
 
-          held' : Held b'
+          held' : BestForced b'
           held' = improve_held b v t held (λ h k. own m i e (answer_own G R s α β a (gate v h k))) a.ends i
 
           go : (x : Bool) → leq G s β (pick G s α v) ≡ x → Fine G S M (Rowed (c ∷ l) b) (ended G S x t r (pick G s α v) b' st)

@@ -14,7 +14,7 @@ use Rattle.rules.specs.Text.{bytes, split}
 use Rattle.rules.specs.Game.{◌∈◌}
 use Rattle.rules.specs.Sheet.{Field, dash, Form, forms, form_of, Fields, bind, read_field, read_fields, read_line}
 
-pub record Shaped (l : Fields) : Type 0 where
+pub record LineShaped (l : Fields) : Type 0 where
   pub form_in : l.of ∈ forms
   pub no_at : l.of.at_field ≡ dash → l.at ≡ pos 0
   pub no_place : l.of.place_field ≡ dash → l.place ≡ pos 0
@@ -40,7 +40,7 @@ dash_zero f text z d e = go (eq_list text (bytes "-")) (rw d at e)
     go true e = cc
     go false e = absurd (true≢false (cc))
 
-fields_shaped : (w a p m c : List ℕ) (l : Fields) → read_fields w a p m c ≡ some l → Shaped l
+fields_shaped : (w a p m c : List ℕ) (l : Fields) → read_fields w a p m c ≡ some l → LineShaped l
 unfolding read_fields
 fields_shaped w a p m c l e =
     let (f, ef, e1) = bind_some (form_of w forms) _ l e in
@@ -50,7 +50,7 @@ fields_shaped w a p m c l e =
     let (b, eb, e5) = bind_some (read_field f.cap_field c) _ l e4 in
     go f x y z b ef ex ey ez (cc)
   where
-    go : (f : Form) (x y z b : ℤ) → form_of w forms ≡ some f → read_field f.at_field a ≡ some x → read_field f.place_field p ≡ some y → read_field f.n_field m ≡ some z → l ≡ record { of = f; at = x; place = y; n = z; bound = b } → Shaped l
+    go : (f : Form) (x y z b : ℤ) → form_of w forms ≡ some f → read_field f.at_field a ≡ some x → read_field f.place_field p ≡ some y → read_field f.n_field m ≡ some z → l ≡ record { of = f; at = x; place = y; n = z; bound = b } → LineShaped l
     go f x y z b ef ex ey ez same = rw same (record {
       form_in = form_of_in w forms f ef;
       no_at = λ d. dash_zero f.at_field a x d ex;
@@ -58,13 +58,13 @@ fields_shaped w a p m c l e =
       no_n = λ d. dash_zero f.n_field m z d ez;
     })
 
-pub line_shaped : (text : List ℕ) (l : Fields) → read_line text ≡ some l → Shaped l
+pub line_shaped : (text : List ℕ) (l : Fields) → read_line text ≡ some l → LineShaped l
 unfolding read_line
 line_shaped text l e =
     let parts = split 32 text in
     go (eqb (length parts) 5) (read_fields (get_or parts 0 []) (get_or parts 1 []) (get_or parts 2 []) (get_or parts 3 []) (get_or parts 4 [])) refl e
   where
     go : (b : Bool) (o : Option Fields) → read_fields (get_or (split 32 text) 0 []) (get_or (split 32 text) 1 []) (get_or (split 32 text) 2 []) (get_or (split 32 text) 3 []) (get_or (split 32 text) 4 []) ≡ o →
-        cond b o none ≡ some l → Shaped l
+        cond b o none ≡ some l → LineShaped l
     go true o h e = fields_shaped _ _ _ _ _ l (h ∙ e)
     go false o h e = absurd (true≢false (cc))

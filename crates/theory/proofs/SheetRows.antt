@@ -15,8 +15,8 @@ use Rattle.rules.specs.Limits.{max_size, max_number}
 use Rattle.rules.specs.Net.{Kind, size, code, Net, is}
 use Rattle.rules.specs.Game.{◌∈◌}
 use Rattle.rules.specs.Sheet.{dash, transition, place, Form, form, unsigned, forms, Fields, in_field, in_range, row_of}
-use Rattle.theory.proofs.NetLimits.{Between, KindLimits, RowLimits, limited_kind}
-use Rattle.theory.proofs.SheetLines.{Shaped}
+use Rattle.theory.proofs.NetLimits.{IntBetween, KindLimits, RowLimits, limited_kind}
+use Rattle.theory.proofs.SheetLines.{LineShaped}
 
 -- what holds of each of a list
 abbrev Each : (Form → Type 0) → List Form → Type 0
@@ -30,7 +30,7 @@ each_in P f (x ∷ l) h i = ⊎_elim (λ e. rw e h.0) (each_in P f l h.1) (Mem�
 index : (n : ℕ) (z : ℤ) → le_z (pos 0) z && lt_z z (pos n) ≡ true → nat_abs z < n
 index n z e = let (a, b) = and_true (le_z (pos 0) z) (lt_z z (pos n)) e in omega (ints, parts z)
 
-between : (a b z : ℤ) → le_z a z && le_z z b ≡ true → Between a b z
+between : (a b z : ℤ) → le_z a z && le_z z b ≡ true → IntBetween a b z
 between a b z e = let (x, y) = and_true (le_z a z) (le_z z b) e in (omega ints, omega ints)
 
 module _ (net : Net) (x y z b : ℤ) where
@@ -81,12 +81,12 @@ module _ (net : Net) (x y z b : ℤ) where
     ),
   )
     where
-      arc : {A : Type 0} {k : Kind} {w : List ℕ} → A → InFields (form k w transition place unsigned dash true) → (nat_abs x < net.transitions) × (nat_abs y < net.places) × Between (pos 0) (pos max_number) z
+      arc : {A : Type 0} {k : Kind} {w : List ℕ} → A → InFields (form k w transition place unsigned dash true) → (nat_abs x < net.transitions) × (nat_abs y < net.places) × IntBetween (pos 0) (pos max_number) z
       arc n h = (index net.transitions x h.at_fits, index net.places y h.place_fits, between (pos 0) (pos max_number) z h.n_fits)
 
   -- a line `size`
   abbrev Sizes : Form → Type 0
-  Sizes f = (eqb (code f.kind) (code size) ≡ true) → InFields f → Between (pos 1) (pos max_size) x × Between (pos 1) (pos max_size) y
+  Sizes f = (eqb (code f.kind) (code size) ≡ true) → InFields f → IntBetween (pos 1) (pos max_size) x × IntBetween (pos 1) (pos max_size) y
 
   each_sizes : Each Sizes forms
   unfolding forms
@@ -95,7 +95,7 @@ module _ (net : Net) (x y z b : ℤ) where
       no : {A : Type 0} → false ≡ true → A
       no e = absurd (true≢false (sym e))
 
-line_fields : (net : Net) (l : Fields) → Shaped l → in_range net l ≡ true → InFields net l.at l.place l.n l.bound l.of
+line_fields : (net : Net) (l : Fields) → LineShaped l → in_range net l ≡ true → InFields net l.at l.place l.n l.bound l.of
 unfolding in_range
 line_fields net l s e =
     let (abc, d) = and_true _ (in_field net l.of.cap_field l.bound) e in
@@ -103,15 +103,15 @@ line_fields net l s e =
     let (a, b) = and_true (in_field net l.of.at_field l.at) (in_field net l.of.place_field l.place) ab in
     record { at_fits = a; place_fits = b; n_fits = c; bound_fits = d; at_dash = s.no_at; place_dash = s.no_place; n_dash = s.no_n }
 
-pub sizes_within : (net : Net) (l : Fields) → Shaped l → in_range net l ≡ true → is size (row_of l) ≡ true → Between (pos 1) (pos max_size) l.at × Between (pos 1) (pos max_size) l.place
+pub sizes_within : (net : Net) (l : Fields) → LineShaped l → in_range net l ≡ true → is size (row_of l) ≡ true → IntBetween (pos 1) (pos max_size) l.at × IntBetween (pos 1) (pos max_size) l.place
 sizes_within net l s e n =
     each_in (Sizes net l.at l.place l.n l.bound) l.of forms (each_sizes net l.at l.place l.n l.bound) s.form_in n (line_fields net l s e)
 
-pub row_within : (net : Net) (l : Fields) → Shaped l → in_range net l ≡ true → is size (row_of l) ≡ false → RowLimits net (row_of l)
+pub row_within : (net : Net) (l : Fields) → LineShaped l → in_range net l ≡ true → is size (row_of l) ≡ false → RowLimits net (row_of l)
 row_within net l s e n =
     each_in (Limits net l.at l.place l.n l.bound) l.of forms (each_limits net l.at l.place l.n l.bound) s.form_in n (line_fields net l s e)
 
 -- the kinds of limited number, by the table
-pub limited_is : (l : Fields) → Shaped l → l.of.limited ≡ limited_kind l.of.kind
+pub limited_is : (l : Fields) → LineShaped l → l.of.limited ≡ limited_kind l.of.kind
 unfolding forms
 limited_is l s = each_in (λ f. f.limited ≡ limited_kind f.kind) l.of forms (refl, (refl, (refl, (refl, (refl, (refl, (refl, (refl, (refl, (refl, (refl, tt))))))))))) s.form_in

@@ -13,7 +13,7 @@ use Rattle.rules.specs.Forces.{Forces, floor, final, own, Exact}
 use Rattle.theory.specs.Ends.{Lt, End, bound, scored}
 use Rattle.theory.proofs.Order.{le_refl, le_antisym, lt_not_le, le_lt_trans, flip_lt}
 use Rattle.theory.proofs.Forces.{consistent, exact_of}
-use Rattle.theory.proofs.Answer.{Certified, Answer, Open, end_inside, flat_forces, open_edge, certified_exact, answer_of, answer_exact, answer_meet, open_meet, Sound, get_certified, store_sound, Fine, fine_map, fine_then, SoundSearch}
+use Rattle.theory.proofs.Answer.{Certified, WindowSays, Open, end_inside, flat_forces, open_edge, certified_exact, answer_of, answer_exact, answer_meet, open_meet, Sound, get_certified, store_sound, Fine, fine_map, fine_then, SoundSearch}
 use Rattle.theory.proofs.Tests.{or_true, or_false, and_true, and_false}
 use Rattle.theory.proofs.Children.{Children, Prepared, expand_prepared, filtered_prepared, children_cap}
 use Rattle.theory.proofs.Row.{Rowed, row_sound}
@@ -29,7 +29,7 @@ module _ (G : Game) (S : Settings G) (M : Lawful G S) where
 
   module _ (p : Pos) (real : Real p) where
     -- the bounds that a value proves are certified
-    proved_certified : (w : Interval Value) (v : Value) → Open G w → Answer G w p v → Certified G p (proved G S (leb v w.lo) (leb w.hi v) v)
+    proved_certified : (w : Interval Value) (v : Value) → Open G w → WindowSays G w p v → Certified G p (proved G S (leb v w.lo) (leb w.hi v) v)
     unfolding proved
     proved_certified w v o a = go (leb v w.lo) refl (leb w.hi v) refl
       where
@@ -60,7 +60,7 @@ module _ (G : Game) (S : Settings G) (M : Lawful G S) where
 
     finish_sound : (s : Side) (c l : List (Child Pos)) (w : Interval Value) (n : ℕ) (b : Option (Best Value)) (st : State S) → mover p ≡ some s → Open G w →
         Children G S M s p (moves p) c → ((k : Child Pos) → k ∈ c → k ∈ l) → Sound G S M st.memo → Rowed G S M s p (edge w s) (edge w (opp s)) l none b →
-        Fine G S M (Answer G w p) (finish G S p w s n b st)
+        Fine G S M (WindowSays G w p) (finish G S p w s n b st)
     unfolding finish
     finish_sound s c l w n none st m ow h i sound g = record { sound = store_sound G S M _ sound real (certified_exact G R exact (bound s)) (λ t e. absurd (true≢false (cc))); gives = answer_exact G R exact (bound s) }
       where
@@ -72,11 +72,11 @@ module _ (G : Game) (S : Settings G) (M : Lawful G S) where
         v : Value
         v = b.best_value
 
-        answer : Answer G w p v
+        answer : WindowSays G w p v
         answer = answer_of G R s w p v g.held.0 (λ x. children_cap G S M s p c v m h (end_inside G R g.held.1 s) (λ k j. g.caps k (i k j) x)) g.held.1
 
     module _ (f : Search G S) (ih : SoundSearch G S M f) where
-      searched_sound : (w : Interval Value) (first : Option ℕ) (s : Side) (x : Expanded Pos) (st : State S) → mover p ≡ some s → Open G w → Prepared G S M s p (moves p) x → Sound G S M st.memo → Fine G S M (Answer G w p) (searched G S f p w first s x st)
+      searched_sound : (w : Interval Value) (first : Option ℕ) (s : Side) (x : Expanded Pos) (st : State S) → mover p ≡ some s → Open G w → Prepared G S M s p (moves p) x → Sound G S M st.memo → Fine G S M (WindowSays G w p) (searched G S f p w first s x st)
       unfolding searched
       searched_sound w first s (halted r) st m o h sound = record { sound = sound; gives = tt }
       searched_sound w first s (won t) st m o h sound = record { sound = store_sound G S M _ sound real (certified_exact G R exact (bound (opp s))) (λ u e. let z : t ≡ u = cc in rw (← z) h.here); gives = answer_exact G R exact (bound (opp s)) }
@@ -90,12 +90,12 @@ module _ (G : Game) (S : Settings G) (M : Lawful G S) where
           (row_sound G S M s p (edge w s) (edge w (opp s)) m real f ih a (λ k i. h.real k ((order k).1 i)) (edge w s) none st sound (open_edge G R w s o) (λ y k _. k) tt)
           (λ b z. finish_sound s c a w st.nodes b z m o h (λ k i. (order k).0 i))
 
-      turned_sound : (w : Interval Value) (first : Option ℕ) (o : Option Side) (st : State S) → mover p ≡ o → Open G w → Sound G S M st.memo → Fine G S M (Answer G w p) (turned G S f p w first o st)
+      turned_sound : (w : Interval Value) (first : Option ℕ) (o : Option Side) (st : State S) → mover p ≡ o → Open G w → Sound G S M st.memo → Fine G S M (WindowSays G w p) (turned G S f p w first o st)
       unfolding turned
       turned_sound w first none st m o sound = record { sound = sound; gives = tt }
       turned_sound w first (some s) st m o sound = searched_sound w first s _ st m o (filtered_prepared G S M s p non_losing (moves p) _ (expand_prepared G S M s p (moves p))) sound
 
-      listed_sound : (w : Interval Value) (first : Option ℕ) (b : Bool) (l : List ℕ) (st : State S) → moves p ≡ l → Open G w → Sound G S M st.memo → Fine G S M (Answer G w p) (listed G S f p w first b l st)
+      listed_sound : (w : Interval Value) (first : Option ℕ) (b : Bool) (l : List ℕ) (st : State S) → moves p ≡ l → Open G w → Sound G S M st.memo → Fine G S M (WindowSays G w p) (listed G S f p w first b l st)
       unfolding listed
       listed_sound w first true l st e o sound = record { sound = sound; gives = tt }
       listed_sound w first false [] st e o sound = record { sound = store_sound G S M _ sound real (certified_exact G R exact (scored p)) (λ t e. absurd (true≢false (cc))); gives = answer_exact G R exact (scored p) }
@@ -104,7 +104,7 @@ module _ (G : Game) (S : Settings G) (M : Lawful G S) where
           exact s = final e (le_refl G R)
       listed_sound w first false (t ∷ l) st e o sound = turned_sound w first (mover p) st refl o sound
 
-      opened_sound : (w : Interval Value) (o : Option (Entry Value)) (st : State S) → get st.memo p ≡ o → Open G w → Sound G S M st.memo → Fine G S M (Answer G w p) (opened G S f p (recall G S w o) st)
+      opened_sound : (w : Interval Value) (o : Option (Entry Value)) (st : State S) → get st.memo p ≡ o → Open G w → Sound G S M st.memo → Fine G S M (WindowSays G w p) (opened G S f p (recall G S w o) st)
       unfolding opened recall recalled
       opened_sound w none st g o sound = listed_sound w none _ (moves p) st refl o sound
       opened_sound w (some e) st g o sound = go (eqv G lo hi || leb w.hi lo) refl (leb hi w.lo) refl
@@ -140,7 +140,7 @@ module _ (G : Game) (S : Settings G) (M : Lawful G S) where
               let (a, b) = or_false (eqv G lo hi) (leb w.hi lo) x in
               inl (open_meet G R h (open_bounds (and_false (leb lo hi) (leb hi lo) a)) (record { holds = k }) (record { holds = b }))
 
-          go : (x : Bool) → (eqv G lo hi || leb w.hi lo) ≡ x → (y : Bool) → leb hi w.lo ≡ y → Fine G S M (Answer G w p) (opened G S f p (recalled G S x y w e) st)
+          go : (x : Bool) → (eqv G lo hi || leb w.hi lo) ≡ x → (y : Bool) → leb hi w.lo ≡ y → Fine G S M (WindowSays G w p) (opened G S f p (recalled G S x y w e) st)
           go true x y k = record { sound = sound; gives = record { forced = low_answer (or_true _ _ x); ends = c.ends max } }
           go false x true k = record { sound = sound; gives = record { forced = high_answer k; ends = c.ends min } }
           go false x false k = fine_map G S M (λ v. answer_meet G R c) (listed_sound (meet G w e.bounds) e.best _ (moves p) st refl (narrowed k x o) sound)
@@ -153,7 +153,7 @@ module _ (G : Game) (S : Settings G) (M : Lawful G S) where
   unfolding counted ticked budgeted
   counted_sound b f h p w st real sound o = go (passes G S b (suc st.nodes))
     where
-      go : (x : Bool) → Fine G S M (Answer G w p) (budgeted G S x (f p w) (tick G S st))
+      go : (x : Bool) → Fine G S M (WindowSays G w p) (budgeted G S x (f p w) (tick G S st))
       go true = record { sound = sound; gives = tt }
       go false = h p w (tick G S st) real sound o
 
