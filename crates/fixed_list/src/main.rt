@@ -20,7 +20,7 @@ const HEADING: &[u8] = b"answer move value nodes\n";
 
 // A case: the settings, the lengths of the memory, and the end of its line, an answer and a hash.
 #[derive(Clone, Copy)]
-struct Case<'a> {
+struct ListCase<'a> {
     settings: Settings<'a>,
     words: usize,
     tags: usize,
@@ -36,9 +36,9 @@ where
 }
 
 // The case of a line.
-fn read_case(line: &[u8]) -> Option<Case<'_>> {
+fn read_case(line: &[u8]) -> Option<ListCase<'_>> {
     let mut fields = line.splitn(9, |b| *b == b' ').skip(1);
-    Some(Case {
+    Some(ListCase {
         settings: Settings {
             budget: number(fields.next()?)?,
             entries: number(fields.next()?)?,
@@ -80,7 +80,7 @@ fn ends_in(end: &[u8], answer: Answer, hash: u64) -> bool {
 }
 
 // Whether a case on a sheet gives what the list says, on memory that is lent.
-fn holds(case: Case, sheet: &[u8], words: &mut [u64], tags: &mut [u8]) -> bool {
+fn holds(case: ListCase, sheet: &[u8], words: &mut [u64], tags: &mut [u8]) -> bool {
     for (i, w) in words.iter_mut().enumerate() {
         *w = 0xA5A5_A5A5_0000_0000 | i as u64;
     }

@@ -2,7 +2,7 @@
 
 ghost use Rattle.std.specs.Prelude.{◌≤◌, ◌<◌};
 
-use crate::lent::{Lent, RANGE, number, store, value, with_memo};
+use crate::lent::{Buffers, RANGE, number, store, value, with_memo};
 use memo::Memo;
 use std::io;
 use table::{Entry, Interval, Table};
@@ -10,7 +10,7 @@ use words::Bitset;
 
 // Where a replay stands.
 #[derive(Clone, Copy)]
-struct State {
+struct ReplayState {
     seed: u64,
     hash: u64,
 }
@@ -72,7 +72,7 @@ fn best(r: u64) -> Option<u64> {
 }
 
 // One turn: a get of the key drawn, a store by two more numbers, or a new generation.
-fn turn(memo: &mut Memo, state: State, pool: u64, span: u64) -> State
+fn turn(memo: &mut Memo, state: ReplayState, pool: u64, span: u64) -> ReplayState
     requires { (0 < pool) × (pool ≤ 4096) × (0 < span) × (span ≤ 1000001) }
 {
     let a = next(state.seed);
@@ -93,7 +93,7 @@ fn turn(memo: &mut Memo, state: State, pool: u64, span: u64) -> State
             store(memo, key, Entry { bounds, best }, c % 0x10000);
         }
     }
-    State { seed: c, hash }
+    ReplayState { seed: c, hash }
 }
 
 // The size of values: a compact table gets few bounds at first, and then more than its dictionary holds.
@@ -115,7 +115,7 @@ fn turns(memo: &mut Memo, entries: u64, seed: u64) -> u64
 {
     let compact = memo.table.compact;
     let count = 400 + 24 * entries;
-    let mut state = State {
+    let mut state = ReplayState {
         seed,
         hash: test_cases::HASH_START,
     };
@@ -135,10 +135,10 @@ fn hashed_memo(hash: u64, memo: &Memo) -> u64 {
 // The line of one table.
 fn replay(
     rt: &impl Print,
-    lent: &mut Lent,
+    lent: &mut Buffers,
     entries: usize,
     key_words: usize,
-    // (a plain answer, as in the `Table` of crate table)
+    // (a plain answer, as in memo's Table)
     compact: bool,
     seed: u64,
 ) -> io::Result<()>
@@ -171,7 +171,7 @@ fn entries_of(j: usize) -> usize
 }
 
 // A line for each number of entries, with and without a dictionary, and for keys of two to four words.
-pub(crate) fn replay_all(rt: &impl Print, lent: &mut Lent) -> io::Result<()> {
+pub(crate) fn replay_all(rt: &impl Print, lent: &mut Buffers) -> io::Result<()> {
     for i in 0..54 {
         let compact = i / 3 % 2 == 1;
         let seed = 88172645463325252 + i as u64;

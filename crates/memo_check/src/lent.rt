@@ -19,7 +19,7 @@ pub(crate) const TAGS: usize = 1024;
 
 // Memory for the largest memo.
 #[derive(Drop)]
-pub(crate) struct Lent<'a> {
+pub(crate) struct Buffers<'a> {
     pub words: &'a mut [u64],
     pub tags: &'a mut [u8],
     pub dict: &'a mut [u64],
@@ -54,7 +54,7 @@ fn work_in<R, F: FnOnce(&mut Memo) -> R>(
 }
 
 // The same in lent memory.
-pub(crate) fn with_memo<R, F: FnOnce(&mut Memo) -> R>(lent: &mut Lent, table: Table, work: F) -> R
+pub(crate) fn with_memo<R, F: FnOnce(&mut Memo) -> R>(lent: &mut Buffers, table: Table, work: F) -> R
     requires { F.IsAlwaysCallable work }
 {
     work_in(lent.words, lent.tags, lent.dict, table, work)

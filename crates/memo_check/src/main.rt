@@ -9,14 +9,14 @@ mod cases;
 mod lent;
 mod written;
 
-use lent::{Lent, TAGS, WORDS};
+use lent::{Buffers, TAGS, WORDS};
 use std::io;
 
 fn main(rt: HostRuntime) -> io::Result<()> {
     let mut words = [0u64; WORDS];
     let mut tags = [0u8; TAGS];
     let mut dict = [0u64; 255];
-    let mut lent = Lent {
+    let mut lent = Buffers {
         words: &mut words,
         tags: &mut tags,
         dict: &mut dict,

@@ -2,7 +2,7 @@
 
 ghost use Rattle.std.specs.Prelude.{◌≤◌, ◌<◌, length};
 
-use crate::lent::{Lent, RANGE, number, store, value, with_memo};
+use crate::lent::{Buffers, RANGE, number, store, value, with_memo};
 use memo::Memo;
 use std::fmt::{self, Display, Formatter, Write};
 use std::io;
@@ -109,10 +109,10 @@ fn store_all(memo: &mut Memo, run: &[Row]) {
 // A short run on one table, written out whole.
 fn written(
     rt: &impl Print,
-    lent: &mut Lent,
+    lent: &mut Buffers,
     entries: usize,
     key_words: usize,
-    // (a plain answer, as in the `Table` of crate table)
+    // (a plain answer, as in memo's Table)
     compact: bool,
     run: &[Row],
 ) -> io::Result<()>
@@ -126,7 +126,7 @@ fn written(
 }
 
 // Six stores in one bucket: one is met with its row, and the last replaces the weakest.
-pub(crate) fn six(rt: &impl Print, lent: &mut Lent) -> io::Result<()> {
+pub(crate) fn six(rt: &impl Print, lent: &mut Buffers) -> io::Result<()> {
     let run = [
         *b"100A103",
         *b"2000011",
@@ -139,7 +139,7 @@ pub(crate) fn six(rt: &impl Print, lent: &mut Lent) -> io::Result<()> {
 }
 
 // Ten stores in two buckets: both fill, and the second is used.
-pub(crate) fn ten(rt: &impl Print, lent: &mut Lent) -> io::Result<()> {
+pub(crate) fn ten(rt: &impl Print, lent: &mut Buffers) -> io::Result<()> {
     let run = [
         *b"101D512",
         *b"202C524",
@@ -172,7 +172,7 @@ fn alter(memo: &mut Memo, meta: u64) {
 
 // What a get of key 1 gives where its row has that meta word. A bound that is no number between the net's bounds, or whose index lies past the dictionary, reads as the net's own,
 // and a move that is none as none; a row of the counted engine (bit 63) is not found.
-pub(crate) fn altered(rt: &impl Print, lent: &mut Lent, meta: u64) -> io::Result<()> {
+pub(crate) fn altered(rt: &impl Print, lent: &mut Buffers, meta: u64) -> io::Result<()> {
     let table = Table::new(5, 128, true);
     let key = Bitset {
         a: 1,
