@@ -35,5 +35,5 @@ abbrev pub times : Option ℕ → List ℕ → List ℕ
 times None l = []
 times (Some i) l = lines (decimal 0 (take i l)) (drop (i + 1) l)
 
-abbrev pub repeated : List ℕ → List ℕ
-repeated l = times (position (λ b. b == 32) l) l
+abbrev pub repeated_text : List ℕ → List ℕ
+repeated_text l = times (position (λ b. b == 32) l) l
