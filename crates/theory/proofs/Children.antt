@@ -11,11 +11,11 @@ use Rattle.rules.specs.Game.{Game, Side, opp, Played, to, stopped, ◌∈◌, Le
 use Rattle.rules.specs.Filter.{Verdict, keep, drop, refuse, wins}
 use Rattle.rules.specs.Search.{Child, Settings, Expanded, halted, won, children, add, expanded, played, expand, sifted, sift, filtered}
 use Rattle.rules.specs.Forces.{Forces}
-use Rattle.theory.proofs.Tests.{and_true}
 use Rattle.theory.proofs.Filter.{wins_final}
 use Rattle.theory.proofs.Order.{flip_le}
 use Rattle.theory.proofs.Forces.{reply, weaken}
 use Rattle.theory.proofs.Laws.{Lawful}
+use Rattle.words.proofs.Lists.{and_true}
 
 -- `l` are moves of `p`, which is side `s`'s.
 module _ (G : Game) (S : Settings G) (M : Lawful G S) (s : Side) (p : G.Pos) where

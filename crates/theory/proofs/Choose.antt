@@ -18,10 +18,10 @@ use Rattle.rules.specs.Forces.{final, Exact}
 use Rattle.theory.proofs.Order.{le_refl, le_antisym, pick_elim}
 use Rattle.theory.proofs.Forces.{BestOf, best_one, best_more, best_exact, exact_unique, not_final}
 use Rattle.theory.proofs.Answer.{Sound, Fine, fine_map, fine_then}
-use Rattle.theory.proofs.Tests.{and_true, contains_in}
 use Rattle.theory.proofs.Sound.{alpha_beta_sound}
 use Rattle.theory.proofs.Drivers.{ExactRun, run_exact}
 use Rattle.theory.proofs.Laws.{Rules, Lawful, Driven}
+use Rattle.words.proofs.Lists.{and_true, contains_in}
 
 module _ (G : Game) where
   open G use {Value, Pos, moves}

@@ -17,9 +17,9 @@ use Rattle.rules.specs.Filter.{Verdict, keep, drop, refuse, over, wins, replied,
 use Rattle.rules.specs.Search.{Child, Policy}
 use Rattle.rules.specs.Forces.{Forces, final, own}
 use Rattle.theory.specs.Causes.{Cause, here, mixed, wide, stops}
-use Rattle.theory.proofs.Tests.{and_true}
 use Rattle.theory.proofs.Order.{le_refl, le_antisym}
 use Rattle.theory.proofs.Laws.{Rules, Orderly}
+use Rattle.words.proofs.Lists.{and_true}
 
 module _ (G : Game) (R : Rules G) where
   open G use {leb, Pos, moves, mover, play, score}

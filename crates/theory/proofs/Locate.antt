@@ -15,8 +15,8 @@ use borrow.Author.Tests.{eqb-true}
 use Rattle.words.specs.Lists.{eq_list, range_from}
 use Rattle.rules.specs.Game.{◌∈◌}
 use Rattle.rules.specs.Memo.{mix, remix, Shape, rows, Memo, Look, hit, free, full, seen, or_look, row_key, row_meta, bucket, tag, holds, scan, locate, rank, weakest, slot}
-use Rattle.theory.proofs.Tests.{and_true}
 use Rattle.theory.proofs.Words.{mix_lt, remix_lt, share_lt}
+use Rattle.words.proofs.Lists.{and_true}
 
 pub words_equal : (k l : List ℕ) → eq_list k l ≡ true → k ≡ l
 unfolding eq_list

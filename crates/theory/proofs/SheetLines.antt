@@ -12,7 +12,8 @@ use lib.ListN.{length, get_or}
 use Rattle.words.specs.Lists.{eq_list}
 use Rattle.rules.specs.Text.{bytes, split}
 use Rattle.rules.specs.Game.{◌∈◌}
-use Rattle.rules.specs.Sheet.{Field, dash, Form, forms, form_of, Fields, bind, read_field, read_fields, read_line}
+use Rattle.rules.specs.Sheet.{Field, dash, Form, forms, form_of, Fields, read_field, read_fields, read_line}
+use Rattle.rules.proofs.Binding.{bind_some}
 
 pub record LineShaped (l : Fields) : Type 0 where
   pub form_in : l.of ∈ forms
@@ -28,10 +29,6 @@ form_of_in w (x ∷ l) f e = go (eq_list w x.word) e (form_of_in w l f)
     go : (b : Bool) → cond b (some x) (form_of w l) ≡ some f → (form_of w l ≡ some f → f ∈ l) → f ∈ x ∷ l
     go true e h = Memᴰ.head {x = x} (cc)
     go false e h = Memᴰ.tail (h e)
-
-bind_some : {A B : Type 0} (o : Option A) (k : A → Option B) (b : B) → bind o k ≡ some b → (a : A) × (o ≡ some a) × (k a ≡ some b)
-bind_some none k b e = absurd (true≢false (cc))
-bind_some (some a) k b e = (a, refl, e)
 
 dash_zero : (f : Field) (text : List ℕ) (z : ℤ) → f ≡ dash → read_field f text ≡ some z → z ≡ pos 0
 dash_zero f text z d e = go (eq_list text (bytes "-")) (rw d at e)

@@ -14,10 +14,11 @@ use Rattle.theory.specs.Ends.{Lt, End, bound, scored}
 use Rattle.theory.proofs.Order.{le_refl, le_antisym, lt_not_le, le_lt_trans, flip_lt}
 use Rattle.theory.proofs.Forces.{consistent, exact_of}
 use Rattle.theory.proofs.Answer.{Certified, WindowSays, Open, end_inside, flat_forces, open_edge, certified_exact, answer_of, answer_exact, answer_meet, open_meet, Sound, get_certified, store_sound, Fine, fine_map, fine_then, SoundSearch}
-use Rattle.theory.proofs.Tests.{or_true, or_false, and_true, and_false}
+use Rattle.theory.proofs.Tests.{or_false, and_false}
 use Rattle.theory.proofs.Children.{Children, Prepared, expand_prepared, filtered_prepared, children_cap}
 use Rattle.theory.proofs.Row.{Rowed, row_sound}
 use Rattle.theory.proofs.Laws.{Lawful}
+use Rattle.words.proofs.Lists.{and_true, or_true}
 
 module _ (G : Game) (S : Settings G) (M : Lawful G S) where
   open G use {Value, leb, Pos, moves, mover, score, low, high}
