@@ -54,7 +54,11 @@ fn work_in<R, F: FnOnce(&mut Memo) -> R>(
 }
 
 // The same in lent memory.
-pub(crate) fn with_memo<R, F: FnOnce(&mut Memo) -> R>(lent: &mut Buffers, table: Table, work: F) -> R
+pub(crate) fn with_memo<R, F: FnOnce(&mut Memo) -> R>(
+    lent: &mut Buffers,
+    table: Table,
+    work: F,
+) -> R
     requires { F.IsAlwaysCallable work }
 {
     work_in(lent.words, lent.tags, lent.dict, table, work)
