@@ -138,7 +138,7 @@ fn replay(
     lent: &mut Buffers,
     entries: usize,
     key_words: usize,
-    // (a plain answer, as in memo's Table)
+    // (a plain answer, as in the `Table` of crate table)
     compact: bool,
     seed: u64,
 ) -> io::Result<()>

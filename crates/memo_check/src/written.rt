@@ -112,7 +112,7 @@ fn written(
     lent: &mut Buffers,
     entries: usize,
     key_words: usize,
-    // (a plain answer, as in memo's Table)
+    // (a plain answer, as in the `Table` of crate table)
     compact: bool,
     run: &[Row],
 ) -> io::Result<()>
