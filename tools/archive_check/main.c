@@ -8,10 +8,7 @@
 #include <stdlib.h>
 #include <string.h>
 
-/* crates/keymove_c/src/lib.rt: a slice is a pointer and a length */
-void keymove_choose(const uint8_t *sheet, size_t sheet_len, uint64_t budget, uint64_t entries, uint64_t driver, uint64_t filters,
-                    const uint8_t *chain, size_t chain_len, uint64_t *words, size_t words_len, uint8_t *tags, size_t tags_len,
-                    uint64_t *out, size_t out_len);
+#include "keymove.h"
 
 enum { GUARD = 16, SHEET = 65537, WORDS = 7200, TAGS = 1100, LINE = 127 };
 static const uint64_t WORD = 0x5EED5EED5EED5EED;
