@@ -81,7 +81,7 @@ enum {
 enum {
     KEYMOVE_REFUSED_SHEET = 1,     /* a line is not in its form; the sheet is too long (line 0) */
     KEYMOVE_REFUSED_RANGE = 2,     /* a number, an index or a count of rows is beyond its limit */
-    KEYMOVE_REFUSED_ROLL = 3,      /* a second `mark`, `turn` or `auto`; a transition has none (line 0) */
+    KEYMOVE_REFUSED_ROLL = 3,      /* a second `mark`, `turn` or `auto`; or neither role (line 0) */
     KEYMOVE_REFUSED_SETTINGS = 4,  /* budget, entries, driver, filters or chain */
     KEYMOVE_REFUSED_NO_GOALS = 5,  /* the chain needs goals, and the net has none */
     KEYMOVE_REFUSED_MEMORY = 6,    /* too few words or tags */

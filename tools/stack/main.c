@@ -1,12 +1,13 @@
 /* How much stack a call of the archive takes, and whether KEYMOVE_STACK_BYTES of include/keymove.h
-   is enough. Each call runs in a thread whose stack is memory of our own, painted before: the
-   deepest byte that is no longer as painted, below the frame that makes the call, is its need.
-   (What lies below that byte and was set aside but never written is not seen; tools/stack/bound
-   counts it.) The calls are the deepest that we know: 64 moves and more below the root, both
-   filters, chains of eight with all pieces, each driver, compact and wide rows of the memo,
-   goals, moves that are settled, positions with one move and with three. Then all of them run
-   once more in one thread of just KEYMOVE_STACK_BYTES, and one in a thread with less than its
-   need, in a process of its own. Status 1 where a need is greater, or an answer differs. */
+   is enough. Each call runs in a thread whose stack is memory of our own, painted before: what it
+   takes is counted from the frame that makes the call down to the deepest byte that is no longer
+   as painted. (What was set aside below that byte and never written is not seen; tools/stack/bound
+   counts it.) The calls are the deepest that we know: 64 moves and more below a run's root, each
+   driver, both filters, chains of eight with all pieces, compact and wide rows of the memo, with
+   goals and without, moves that are settled, positions with one move and with three, and a run of
+   a child that goes deeper than the root's. The deepest is made again in threads that have less
+   than it takes, each in a process of its own, and all of them in one thread of just
+   KEYMOVE_STACK_BYTES. Status 1 where a call takes more, or answers otherwise there. */
 #define _POSIX_C_SOURCE 200809L
 #include <inttypes.h>
 #include <pthread.h>
