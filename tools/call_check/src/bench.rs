@@ -133,7 +133,7 @@ fn draft_of(name: &str) -> Draft {
 fn same(got: &Answer, rust: &Got) -> Option<u64> {
     match (got, rust) {
         (Answer::Exact { mv, value, nodes }, Got::Exact { mv: m, value: v, nodes: n }) => {
-            (mv == m && *value as f64 == *v && *nodes == *n as u64).then_some(*nodes)
+            (mv == m && *value == *v && *nodes == *n as u64).then_some(*nodes)
         }
         (Answer::Spent { nodes }, Got::Nothing { nodes: n }) => (*nodes == *n as u64).then_some(*nodes),
         _ => None,
@@ -172,7 +172,7 @@ fn measure(p: &Position, rounds: usize, again: usize) -> Option<Measured> {
     let s = Settings { budget: p.1, entries: p.2, driver: p.3, filters: p.4, chain };
     let net = Net::new(sheet::read(text.as_bytes()).unwrap());
     let rust = Rust::new(&net);
-    let shape = Shape::new(s.entries as usize, net.places, !net.values.is_empty());
+    let shape = Shape::new(&net, s.entries);
     let (mut ours, mut theirs, mut last) = (vec![], vec![], None);
     for _ in 0..rounds {
         let start = now();

@@ -34,7 +34,7 @@ fn decoded(out: &[u64]) -> Result<Answer, String> {
     let value = f64::from_bits(b);
     match kind {
         0 if value as i64 as f64 == value && value.to_bits() != (-0.0f64).to_bits() => {
-            Ok(Answer::Exact { mv: a as usize, value: value as i64, nodes })
+            Ok(Answer::Exact { mv: a as usize, value, nodes })
         }
         1 if a == 0 && b == 0 && nodes == 0 => Ok(Answer::None),
         2 if a == 0 && b == 0 => Ok(Answer::Spent { nodes }),

@@ -273,7 +273,7 @@ impl Seen {
             if deep && r.once_in(2) {
                 s.filters = 3;
             }
-            let shape = Shape::new(s.entries as usize, net.places, !net.values.is_empty());
+            let shape = Shape::new(&net, s.entries);
             for budget in budgets(r, &net, &s) {
                 let s = Settings { budget, ..s.clone() };
                 let lent = (lent(r, shape.words()), lent(r, shape.rows()));

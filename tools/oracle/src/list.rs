@@ -31,7 +31,7 @@ pub fn fnv(bytes: impl Iterator<Item = u8>) -> u64 {
     bytes.fold(0xcbf2_9ce4_8422_2325, |h, b| (h ^ b as u64).wrapping_mul(0x100_0000_01b3))
 }
 
-fn hash(words: &[u64], tags: &[u8]) -> String {
+pub fn hash(words: &[u64], tags: &[u8]) -> String {
     let bytes = words.iter().flat_map(|w| w.to_le_bytes()).chain(tags.iter().copied());
     format!("{:016x}", fnv(bytes))
 }
@@ -349,7 +349,7 @@ fn sample(out: &mut String, counts: &mut Counts, sheets: &mut usize) -> Option<u
             }
             for budget in all {
                 s.budget = budget;
-                let shape = Shape::new(s.entries as usize, net.places, !net.values.is_empty());
+                let shape = Shape::new(&net, s.entries);
                 let more = |r: &mut Random| if r.once_in(2) { r.below(4) } else { 0 };
                 let mut case = Case {
                     settings: s.clone(),

@@ -1,11 +1,14 @@
 //! The oracle: the Rust's answer for a sheet, and our own reading's.
 
+mod cases;
 mod compare;
 mod draft;
 mod list;
 mod random;
 mod reference;
 mod rust;
+mod scenes;
+mod sessions;
 mod walk;
 
 use reference::{net::Net, Answer, Settings};
@@ -17,11 +20,13 @@ oracle reference [OPTIONS] [FILE]  our own reading's
 oracle game NAME [NUMBERS]         a game's sheet
 oracle net SEED                    a random sheet
 oracle compare SEED NETS           our reading against the Rust on random sheets
+oracle sessions SEED CHOICES       our reading against the Rust, choice after choice
 oracle make-list BY-HAND           the fixed list
 oracle check-list FILE [reference|rust]  replays it by our reading, the Rust, or both
 oracle read-list FILE              what our own reader gives of each sheet of a list
 oracle make-walks BY-HAND          the list of walks on nets
 oracle walk-list FILE              what the Rust gives on it
+oracle cases FILE                  replays a file of cases for 02's requests by our own reading
 oracle memo-list                   what the Rust's memo gives on the runs of memo_check
 OPTIONS: budget=1000 entries=1024 driver=1 filters=1 chain=012 memo";
 
@@ -48,6 +53,10 @@ fn start() -> i32 {
             (Ok(seed), Ok(nets)) => !compare::run(seed, nets) as i32,
             _ => usage(),
         },
+        ["sessions", seed, choices] => match (seed.parse(), choices.parse()) {
+            (Ok(seed), Ok(choices)) => !sessions::run(seed, choices) as i32,
+            _ => usage(),
+        },
         ["make-list", file] => printed(file, list::make),
         ["read-list", file] => printed(file, list::read),
         ["make-walks", file] => printed(file, walk::make),
@@ -56,6 +65,10 @@ fn start() -> i32 {
             print!("{}", pflow::memo::ours::runs::all());
             0
         }
+        ["cases", file] => match std::fs::read_to_string(file) {
+            Ok(text) => !cases::check(&text) as i32,
+            Err(_) => usage(),
+        },
         ["check-list", file, by @ ..] => match std::fs::read(file) {
             Ok(text) => {
                 let text = String::from_utf8_lossy(&text);
@@ -128,7 +141,7 @@ fn answer(args: &[&str], by_rust: bool) -> i32 {
     if !by_rust {
         println!("{got}");
         if memo {
-            show_memo(&words, &tags, dict.iter().map(|&x| x as f64));
+            show_memo(&words, &tags, dict.iter().copied());
         }
         return 0;
     }

@@ -110,30 +110,14 @@ impl Rust {
             tags: vec![],
             dict: vec![],
         };
-        let pieces: Vec<Piece> = s.chain.iter().map(|&p| piece(p)).collect();
-        let solver = Chain::new(&pieces).and_then(|c| Solver::with_chain(game, s.budget as usize, c));
-        let mut solver = match solver {
+        let mut solver = match solver(game, s) {
             Ok(solver) => solver,
             Err(Error::Game(text)) => {
                 outcome.got = Got::Error(text);
                 return outcome;
             }
         };
-        let filters = [Filter::MustWin, Filter::NonLosing];
-        let filters: Vec<Filter> = (0..2).filter(|i| s.filters >> i & 1 == 1).map(|i| filters[i]).collect();
-        solver = solver
-            .with_memo(s.entries as usize)
-            .with_filters(&filters)
-            .with_null_window(s.driver == 1)
-            .with_mtd_f(s.driver == 2)
-            .with_play(false);
-        let got = solver.choose(&self.start);
-        let nodes = solver.nodes();
-        outcome.got = match got {
-            Ok(Some(c)) => Got::Exact { mv: c.t, value: c.value.unwrap(), nodes },
-            Ok(None) => Got::Nothing { nodes },
-            Err(Error::Game(text)) => Got::Error(text),
-        };
+        outcome.got = got(&mut solver, &self.start);
         let (words, tags, dict) = solver.left();
         outcome.words = words.to_vec();
         outcome.tags = tags.to_vec();
@@ -142,12 +126,63 @@ impl Rust {
     }
 }
 
+/// A solver with these settings.
+fn solver<'a>(game: &'a Game, s: &Settings) -> pflow::error::Result<Solver<'a>> {
+    let pieces: Vec<Piece> = s.chain.iter().map(|&p| piece(p)).collect();
+    let filters = [Filter::MustWin, Filter::NonLosing];
+    let filters: Vec<Filter> = (0..2).filter(|i| s.filters >> i & 1 == 1).map(|i| filters[i]).collect();
+    Ok(Solver::with_chain(game, s.budget as usize, Chain::new(&pieces)?)?
+        .with_memo(s.entries as usize)
+        .with_filters(&filters)
+        .with_null_window(s.driver == 1)
+        .with_mtd_f(s.driver == 2)
+        .with_play(false))
+}
+
+/// A solver's choice.
+fn got(solver: &mut Solver, marking: &[i64]) -> Got {
+    let got = solver.choose(marking);
+    let nodes = solver.nodes();
+    match got {
+        Ok(Some(c)) => Got::Exact { mv: c.t, value: c.value.unwrap(), nodes },
+        Ok(None) => Got::Nothing { nodes },
+        Err(Error::Game(text)) => Got::Error(text),
+    }
+}
+
+/// A solver that is kept for one choice after another.
+pub struct Kept<'a> {
+    pub solver: Solver<'a>,
+    game: &'a Game,
+    settings: Settings,
+}
+
+impl<'a> Kept<'a> {
+    /// Nothing where the Rust refuses the settings.
+    pub fn new(rust: &'a Rust, s: &Settings) -> Option<Self> {
+        let game = &rust.without_counts;
+        Some(Kept { solver: solver(game, s).ok()?, game, settings: s.clone() })
+    }
+
+    /// A new solver for the old one.
+    pub fn renew(&mut self) {
+        self.solver = solver(self.game, &self.settings).ok().unwrap();
+    }
+
+    /// A choice; nothing where the counted walk would have to go on, after
+    /// which the solver is to be renewed.
+    pub fn choose(&mut self, budget: u64, marking: &[i64]) -> Option<Got> {
+        self.solver.limit(budget as usize);
+        quietly(|| got(&mut self.solver, marking))
+    }
+}
+
 /// What lent memory holds before a call.
 const WORD: u64 = 0xA5A5;
 const TAG: u8 = 0xA5;
 
 /// A call of the reference with the most memory that a memo takes.
-pub fn refer(net: &Net, s: &Settings) -> (Answer, Vec<u64>, Vec<u8>, Vec<i64>) {
+pub fn refer(net: &Net, s: &Settings) -> (Answer, Vec<u64>, Vec<u8>, Vec<f64>) {
     let (mut words, mut tags) = (vec![WORD; 7_168], vec![TAG; 1_024]);
     let (answer, dict) = call_net(net, s, &mut words, &mut tags);
     (answer, words, tags, dict)
@@ -192,7 +227,7 @@ pub fn agrees(net: &Net, rust: &Rust, s: &Settings) -> Result<(Answer, bool), St
 /// Whether memory is untouched by refusals 1 to 7 and behind the memo, and
 /// the memo zero after `none` and the other refusals.
 fn left_right(answer: &Answer, net: &Net, s: &Settings, words: &[u64], tags: &[u8]) -> bool {
-    let shape = Shape::new(s.entries as usize, net.places, !net.values.is_empty());
+    let shape = Shape::new(net, s.entries);
     let (n, rows) = match answer {
         Answer::Refused { number: 1..=7, .. } => (0, 0),
         _ => (shape.words(), shape.rows()),
@@ -200,6 +235,18 @@ fn left_right(answer: &Answer, net: &Net, s: &Settings, words: &[u64], tags: &[u
     let zero = words[..n].iter().all(|&w| w == 0) && tags[..rows].iter().all(|&t| t == 0);
     let untouched = words[n..].iter().all(|&w| w == WORD) && tags[rows..].iter().all(|&t| t == TAG);
     untouched && (zero || matches!(answer, Answer::Exact { .. } | Answer::Spent { .. }))
+}
+
+/// Whether the Rust gives an answer that is no refusal.
+pub fn is(answer: &Answer, got: &Got) -> bool {
+    match (answer, got) {
+        (Answer::Exact { mv, value, nodes }, Got::Exact { mv: m, value: v, nodes: n }) => {
+            mv == m && *value == *v && *nodes == *n as u64
+        }
+        (Answer::None, Got::Nothing { nodes }) => *nodes == 0,
+        (Answer::Spent { nodes }, Got::Nothing { nodes: n }) => *nodes == *n as u64,
+        _ => false,
+    }
 }
 
 /// Whether the Rust's answer, its whole memo and its dictionary are the same.
@@ -210,25 +257,17 @@ fn same(
     o: Outcome,
     words: &[u64],
     tags: &[u8],
-    dict: &[i64],
+    dict: &[f64],
 ) -> Result<bool, String> {
-    let same = match (answer, &o.got) {
-        (Answer::Exact { mv, value, nodes }, Got::Exact { mv: m, value: v, nodes: n }) => {
-            mv == m && *value as f64 == *v && *nodes == *n as u64
-        }
-        (Answer::None, Got::Nothing { nodes }) => *nodes == 0,
-        (Answer::Spent { nodes }, Got::Nothing { nodes: n }) => *nodes == *n as u64,
-        _ => false,
-    };
-    if !same || o.fell_back {
+    if !is(answer, &o.got) || o.fell_back {
         return Err(format!("reference {answer}, Rust {}", show(&o, s.budget)));
     }
-    let shape = Shape::new(s.entries as usize, net.places, !net.values.is_empty());
+    let shape = Shape::new(net, s.entries);
     if o.words[..] != words[..shape.words()] || o.tags[..] != tags[..shape.rows()] {
         return Err(format!("{answer}: the memos differ"));
     }
     // The Rust's sums of no rewards are -0.0.
-    if !o.dict.iter().map(|&x| f64::from_bits(x)).eq(dict.iter().map(|&x| x as f64)) {
+    if !o.dict.iter().map(|&x| f64::from_bits(x)).eq(dict.iter().copied()) {
         return Err(format!("{answer}: the dictionaries differ"));
     }
     Ok(true)
@@ -236,16 +275,20 @@ fn same(
 
 /// As `keymove` prints it, or the Rust's error.
 pub fn show(o: &Outcome, budget: u64) -> String {
-    let text = match &o.got {
+    let text = shown(&o.got, budget);
+    if o.fell_back {
+        text + " (by counts)"
+    } else {
+        text
+    }
+}
+
+pub fn shown(got: &Got, budget: u64) -> String {
+    match got {
         Got::Exact { mv, value, nodes } => format!("exact {mv} {value} {nodes}"),
         Got::Nothing { nodes: 0 } => "none - - 0".into(),
         Got::Nothing { nodes } if *nodes as u64 > budget => format!("spent - - {nodes}"),
         Got::Nothing { nodes } => format!("neither - - {nodes}"),
         Got::Error(text) => format!("error: {text}"),
-    };
-    if o.fell_back {
-        text + " (by counts)"
-    } else {
-        text
     }
 }

@@ -1,5 +1,5 @@
-//! What a call left in a solver's memo, and the walk over bits, step by step;
-//! a child of the solver's module.
+//! What choices left in a solver, which may be kept for more of them, and the
+//! walk over bits, step by step; a child of the solver's module.
 
 use super::{Bits, Game, Solver, Walk, INLINE};
 
@@ -7,6 +7,22 @@ impl Solver<'_> {
     /// The memo's words, tags and dictionary.
     pub fn left(&self) -> (&[u64], &[u8], &[u64]) {
         self.tt.left()
+    }
+
+    /// The history, and the memo's generation.
+    pub fn carried(&self) -> (&[u32], u64) {
+        (&self.history, self.tt.generation())
+    }
+
+    /// The memo's words and tags, and the history, to be altered.
+    pub fn memory(&mut self) -> (&mut [u64], &mut [u8], &mut [u32]) {
+        let (words, tags) = self.tt.memory();
+        (words, tags, &mut self.history)
+    }
+
+    /// Another budget, for the choices from now on.
+    pub fn limit(&mut self, budget: usize) {
+        self.budget = budget;
     }
 }
 

@@ -1,16 +1,18 @@
-//! Our own plain reading of 01: the call from sheet to answer, with the
-//! reader, the refusals, the counts and what is left in the lent memory.
+//! Our own plain reading of 01, and of sessions (02, L1): the call from sheet
+//! to answer, with the reader, the refusals, the counts and what is left in the
+//! lent memory.
 //! It is compared with the Rust wherever 01 says that they agree, and says
 //! the answer where the Rust has no counterpart.
 
 pub mod memo;
 pub mod net;
 pub mod search;
+pub mod session;
 pub mod sheet;
 
-use memo::{Memo, Shape};
+use memo::Shape;
 use net::Net;
-use search::Search;
+use session::Session;
 use std::fmt;
 
 /// Why a run ends without a value.
@@ -18,11 +20,14 @@ use std::fmt;
 pub enum Stop {
     Spent,
     Refused(u64),
+    /// No child has the root's value: only where somebody else wrote the
+    /// lent memory.
+    NoChild,
 }
 
-#[derive(Clone, Copy, PartialEq, Eq, Debug)]
+#[derive(Clone, Copy, PartialEq, Debug)]
 pub enum Answer {
-    Exact { mv: usize, value: i64, nodes: u64 },
+    Exact { mv: usize, value: f64, nodes: u64 },
     None,
     Spent { nodes: u64 },
     Refused { number: u64, line: u64, nodes: u64 },
@@ -43,7 +48,7 @@ impl fmt::Display for Answer {
 }
 
 /// What a call is given beside the sheet and the memory.
-#[derive(Clone, Debug)]
+#[derive(Clone, PartialEq, Debug)]
 pub struct Settings {
     pub budget: u64,
     pub entries: u64,
@@ -54,7 +59,7 @@ pub struct Settings {
 
 impl Settings {
     fn in_range(&self) -> bool {
-        self.budget <= 10_000_000
+        in_budget(self.budget)
             && (1..=1_024).contains(&self.entries)
             && self.driver <= 2
             && self.filters <= 3
@@ -67,8 +72,12 @@ impl Settings {
     }
 }
 
+fn in_budget(budget: u64) -> bool {
+    budget <= 10_000_000
+}
+
 /// The call, with the dictionary that it ends with.
-pub fn call(sheet: &[u8], s: &Settings, words: &mut [u64], tags: &mut [u8]) -> (Answer, Vec<i64>) {
+pub fn call(sheet: &[u8], s: &Settings, words: &mut [u64], tags: &mut [u8]) -> (Answer, Vec<f64>) {
     let refused = |number, line| (Answer::Refused { number, line, nodes: 0 }, vec![]);
     match sheet::read(sheet) {
         Err(f) => refused(f.number, f.line),
@@ -76,43 +85,33 @@ pub fn call(sheet: &[u8], s: &Settings, words: &mut [u64], tags: &mut [u8]) -> (
     }
 }
 
-/// The call on a net already read.
-pub fn call_net(net: &Net, s: &Settings, words: &mut [u64], tags: &mut [u8]) -> (Answer, Vec<i64>) {
-    let refused = |number| (Answer::Refused { number, line: 0, nodes: 0 }, vec![]);
+/// Refusals 4 to 6, or the memo's shape.
+fn shape(net: &Net, s: &Settings, words: &[u64], tags: &[u8]) -> Result<Shape, u64> {
     if !s.in_range() {
-        return refused(4);
+        return Err(4);
     }
     if s.wants_goals() && net.goals.is_empty() {
-        return refused(5);
+        return Err(5);
     }
-    let shape = Shape::new(s.entries as usize, net.places, !net.values.is_empty());
+    let shape = Shape::new(net, s.entries);
     if words.len() < shape.words() || tags.len() < shape.rows() {
-        return refused(6);
+        return Err(6);
     }
-    if !net.settled(&net.start) {
-        return refused(7);
+    Ok(shape)
+}
+
+/// The call on a net already read: it is the first choice of a session.
+pub fn call_net(net: &Net, s: &Settings, words: &mut [u64], tags: &mut [u8]) -> (Answer, Vec<f64>) {
+    let refused = |number| (Answer::Refused { number, line: 0, nodes: 0 }, vec![]);
+    match shape(net, s, words, tags) {
+        Err(number) => return refused(number),
+        Ok(_) if !net.settled(&net.start) => return refused(7),
+        Ok(_) => {}
     }
-    let mut search = Search {
-        net,
-        memo: Memo::new(shape, words, tags),
-        budget: s.budget,
-        driver: s.driver,
-        must_win: s.filters & 1 != 0,
-        non_losing: s.filters & 2 != 0,
-        chain: &s.chain,
-        count: 0,
-        history: [0; 256],
-    };
-    let got = search.choose();
-    let nodes = search.count;
-    let answer = match got {
-        Ok(Some((mv, value))) => Answer::Exact { mv, value, nodes },
-        Ok(None) => Answer::None,
-        Err(Stop::Spent) => Answer::Spent { nodes },
-        Err(Stop::Refused(number)) => {
-            search.memo.clear();
-            Answer::Refused { number, line: 0, nodes }
-        }
-    };
-    (answer, search.memo.dict)
+    let mut session = Session::open(net, s, words, tags).expect("what the call takes");
+    let answer = session.choose(net, s.budget, &net.start, words, tags);
+    if let Answer::Spent { nodes } = answer {
+        assert!(nodes > s.budget, "no child has the root's value");
+    }
+    (answer, session.dict)
 }
