@@ -26,8 +26,10 @@ fn read(path: PathBuf) -> String {
 /// keymove_c and all crates below it, a module each.
 fn plain(root: &Path) -> String {
     let list = read(root.join("crates.txt"));
-    let of = |line: &str| line.split(':').next().and_then(|l| l.split_whitespace().next()) == Some("keymove_c");
-    let (_, below) = list.lines().find(|l| of(l)).and_then(|l| l.split_once(':')).expect("keymove_c in crates.txt");
+    let of =
+        |line: &str| line.split(':').next().and_then(|l| l.split_whitespace().next()) == Some("keymove_c");
+    let (_, below) =
+        list.lines().find(|l| of(l)).and_then(|l| l.split_once(':')).expect("keymove_c in crates.txt");
     let names: Vec<&str> = below.split_whitespace().chain(["keymove_c"]).collect();
     let module = |name: &&str| {
         let text = whole(&root.join("crates").join(name).join("src"), "lib");
@@ -40,7 +42,8 @@ fn plain(root: &Path) -> String {
 fn whole(folder: &Path, file: &str) -> String {
     let mut out = String::new();
     for line in read(folder.join(format!("{file}.rt"))).lines() {
-        let named = line.strip_prefix("pub ").unwrap_or(line).strip_prefix("mod ").and_then(|l| l.strip_suffix(';'));
+        let named =
+            line.strip_prefix("pub ").unwrap_or(line).strip_prefix("mod ").and_then(|l| l.strip_suffix(';'));
         match named {
             Some(name) => out += &format!("{} {{\n{}}}\n", line.trim_end_matches(';'), whole(folder, name)),
             None => out += &format!("{line}\n"),
@@ -70,7 +73,10 @@ fn rust(text: &str, own: &str, names: &[&str]) -> String {
             while open != 0 {
                 open += depth(lines.next().expect("the end of a clause"));
             }
-        } else if !words.starts_with("#![tactic(") && !words.starts_with("#[tactic(") && !words.starts_with("#[cycle(") {
+        } else if !words.starts_with("#![tactic(")
+            && !words.starts_with("#[tactic(")
+            && !words.starts_with("#[cycle(")
+        {
             let line = if words == NAN_READ { NAN_READ_BY_RUST } else { line };
             out += &paths(line, own, names).replace(", Drop)]", ")]").replace("#[derive(Drop)]", "");
             out += "\n";

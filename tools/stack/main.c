@@ -1,13 +1,17 @@
-/* How much stack a call of the archive takes, and whether KEYMOVE_STACK_BYTES of include/keymove.h
-   is enough. Each call runs in a thread whose stack is memory of our own, painted before: what it
-   takes is counted from the frame that makes the call down to the deepest byte that is no longer
-   as painted. (What was set aside below that byte and never written is not seen; tools/stack/bound
+/* How much stack a call of each entry of the archive takes (but for keymove_session_words, which
+   only gives a number), and whether KEYMOVE_STACK_BYTES of include/keymove.h is enough. Each
+   call runs in a thread whose stack is memory of our own, painted before: what it takes is
+   counted from the frame that makes the call down to the deepest byte that is no longer as
+   painted. (What was set aside below that byte and never written is not seen; tools/stack/bound
    counts it.) The calls are the deepest that we know: 64 moves and more below a run's root, each
    driver, both filters, chains of eight with all pieces, compact and wide rows of the memo, with
-   goals and without, moves that are settled, positions with one move and with three, and a run of
-   a child that goes deeper than the root's. The deepest is made again in threads that have less
-   than it takes, each in a process of its own, and all of them in one thread of just
-   KEYMOVE_STACK_BYTES. Status 1 where a call takes more, or answers otherwise there. */
+   goals and without, moves that are settled, positions with one move and with three, and a run
+   of a child that goes deeper than the root's: keymove_choose's; and with the same settings a
+   sheet is opened in words that are too few, and as a session, in which its marking is chosen
+   for with several budgets, one after another. The deepest of each entry is made again in
+   threads that have less than it takes, each in a process of its own, and all of them in one
+   thread of just KEYMOVE_STACK_BYTES. Status 1 where a call takes more, or answers otherwise
+   there. */
 #define _POSIX_C_SOURCE 200809L
 #include <inttypes.h>
 #include <pthread.h>
@@ -23,7 +27,10 @@
 
 #include "keymove.h"
 
-enum { PAGE = 4096, SIZE = 4 << 20, PAINT = 0xA7, CASES = 4096 };
+enum { PAGE = 4096, SIZE = 4 << 20, PAINT = 0xA7, CASES = 8192 };
+
+enum entry { CHOOSE, OPEN, PICK, ENTRIES };
+static const char *const names[ENTRIES] = {"keymove_choose", "keymove_open", "keymove_pick"};
 
 struct sheet {
     char *text;
@@ -32,7 +39,9 @@ struct sheet {
 };
 
 struct call {
+    enum entry entry;
     const struct sheet *sheet;
+    size_t session; /* its words that are lent */
     uint64_t budget, entries, driver, filters;
     const char *chain;
     uint64_t out[KEYMOVE_OUT_WORDS];
@@ -41,6 +50,7 @@ struct call {
 
 static struct call calls[CASES];
 static size_t count;
+static uint64_t session[KEYMOVE_SESSION_WORDS];
 static uint64_t words[KEYMOVE_WORDS];
 static uint8_t tags[KEYMOVE_TAGS];
 
@@ -115,9 +125,27 @@ static struct sheet *longest(void) {
     return s;
 }
 
-static void with(const struct sheet *s, uint64_t budget, uint64_t entries, uint64_t driver, uint64_t filters, const char *chain) {
+static void one(struct call c) {
     if (count == CASES) stop("too many calls");
-    calls[count++] = (struct call){s, budget, entries, driver, filters, chain, {0}, NULL};
+    calls[count++] = c;
+}
+
+/* a call; an opening in a session that is too short; then a session, in which a choice that is spent at once, one that is spent on
+   its way, the whole search, and one that begins with all that is remembered */
+static void with(const struct sheet *s, uint64_t budget, uint64_t entries, uint64_t driver, uint64_t filters, const char *chain) {
+    const uint64_t budgets[] = {0, 40, budget, budget};
+    const struct call open = {OPEN, s, KEYMOVE_SESSION_WORDS, budget, entries, driver, filters, chain, {0}, NULL};
+    struct call choose = open, little = open, pick = open;
+    choose.entry = CHOOSE;
+    little.session--;
+    pick.entry = PICK;
+    one(choose);
+    one(little);
+    one(open);
+    for (size_t i = 0; i < sizeof budgets / sizeof *budgets; i++) {
+        pick.budget = budgets[i];
+        one(pick);
+    }
 }
 
 static void cases(void) {
@@ -141,8 +169,18 @@ static void run(struct call *c) {
     size_t n = strlen(c->chain);
     for (size_t i = 0; i < n; i++) pieces[i] = (uint8_t)(c->chain[i] - '0');
     c->frame = (char *)&pieces;
-    keymove_choose((const uint8_t *)c->sheet->text, c->sheet->bytes, c->budget, c->entries, c->driver, c->filters, pieces, n,
-                   words, KEYMOVE_WORDS, tags, KEYMOVE_TAGS, c->out, KEYMOVE_OUT_WORDS);
+    switch (c->entry) {
+    case OPEN:
+        keymove_open(session, c->session, (const uint8_t *)c->sheet->text, c->sheet->bytes, c->entries, c->driver, c->filters, pieces, n,
+                     words, KEYMOVE_WORDS, tags, KEYMOVE_TAGS, c->out, KEYMOVE_OUT_WORDS);
+        break;
+    case PICK: /* of place 0, the marking of each sheet */
+        keymove_pick(session, c->session, c->budget, 1, 0, 0, 0, words, KEYMOVE_WORDS, tags, KEYMOVE_TAGS, c->out, KEYMOVE_OUT_WORDS);
+        break;
+    default:
+        keymove_choose((const uint8_t *)c->sheet->text, c->sheet->bytes, c->budget, c->entries, c->driver, c->filters, pieces, n,
+                       words, KEYMOVE_WORDS, tags, KEYMOVE_TAGS, c->out, KEYMOVE_OUT_WORDS);
+    }
 }
 
 static void *run_one(void *c) {
@@ -171,14 +209,24 @@ static void *in_thread(const pthread_attr_t *attr, void *(*work)(void *), void *
 /* how far below its caller's frame a call went */
 static size_t need(struct call *c, char *stack) {
     pthread_attr_t attr;
+    unsigned char painted[64];
+    memset(painted, PAINT, sizeof painted);
     memset(stack, PAINT, SIZE);
     if (pthread_attr_init(&attr) || pthread_attr_setstack(&attr, stack, SIZE)) stop("no stack of our own");
     in_thread(&attr, run_one, c);
     pthread_attr_destroy(&attr);
     size_t i = 0;
+    while (i < SIZE && !memcmp(stack + i, painted, sizeof painted)) i += sizeof painted;
     while (i < SIZE && (unsigned char)stack[i] == PAINT) i++;
     if (i == 0 || c->frame < stack + i) stop("the paint says nothing");
     return (size_t)(c->frame - (stack + i));
+}
+
+/* the calls from the one that opened its session, for a choice, up to this one, each on the stack of this thread */
+static void come_to(struct call *c) {
+    struct call *from = c;
+    while (from->entry == PICK) from--;
+    for (; from < c; from++) run(from);
 }
 
 /* the signal that ends a process which makes the call in a thread of so many bytes; 0 where it ends by itself */
@@ -199,25 +247,41 @@ static int signal_in(size_t size, struct call *c) {
     return WIFSIGNALED(status) ? WTERMSIG(status) : 0;
 }
 
-int main(void) {
-    pthread_attr_t attr;
+/* measures the calls; finds the deepest of each entry, with what it takes */
+static void measure(struct call *deepest[ENTRIES], size_t most[ENTRIES], size_t made[ENTRIES]) {
     char *stack = aligned_alloc(PAGE, SIZE);
-    size_t most = 0, at = 0;
     if (!stack) stop("no memory");
-    cases();
     for (size_t i = 0; i < count; i++) {
-        size_t n = need(calls + i, stack);
-        if (n > most) most = n, at = i;
+        struct call *c = calls + i;
+        size_t n = need(c, stack);
+        made[c->entry]++;
+        if (n > most[c->entry] || !deepest[c->entry]) most[c->entry] = n, deepest[c->entry] = c;
     }
-    struct call *c = calls + at;
-    printf("stack: %zu bytes at the most in %zu calls: %s, driver %" PRIu64 ", filters %" PRIu64 ", chain %s, answer %" PRIu64 " %" PRIu64 " %" PRIu64 "\n",
-           most, count, c->sheet->name, c->driver, c->filters, c->chain, c->out[0], c->out[1], c->out[3]);
-    if (most > KEYMOVE_STACK_BYTES) stop("KEYMOVE_STACK_BYTES is less");
-    /* (before any thread whose stack the library keeps: it would be taken again for a smaller one) */
+}
+
+/* the call, which takes so many bytes, ends by SIGSEGV in threads that have less */
+static void cut_short(struct call *c, size_t most) {
     const size_t sizes[] = {most / PAGE * PAGE - PAGE, most / 2, 16 * PAGE};
+    come_to(c);
     for (size_t i = 0; i < sizeof sizes / sizeof *sizes; i++)
         if (signal_in(sizes[i] / PAGE * PAGE, c) != SIGSEGV) stop("a call in a thread with less than its need does not end by SIGSEGV");
-    printf("stack: with less than its need that call ends by SIGSEGV\n");
+}
+
+int main(void) {
+    pthread_attr_t attr;
+    struct call *deepest[ENTRIES] = {NULL};
+    size_t most[ENTRIES] = {0}, made[ENTRIES] = {0};
+    cases();
+    measure(deepest, most, made);
+    for (int i = 0; i < ENTRIES; i++) {
+        struct call *c = deepest[i];
+        printf("stack: %zu bytes at the most in %zu calls of %s: %s, budget %" PRIu64 ", driver %" PRIu64 ", filters %" PRIu64 ", chain %s, answer %" PRIu64 " %" PRIu64 " %" PRIu64 "\n",
+               most[i], made[i], names[i], c->sheet->name, c->budget, c->driver, c->filters, c->chain, c->out[0], c->out[1], c->out[3]);
+        if (most[i] > KEYMOVE_STACK_BYTES) stop("KEYMOVE_STACK_BYTES is less");
+    }
+    /* (before any thread whose stack the library keeps: it would be taken again for a smaller one) */
+    for (int i = 0; i < ENTRIES; i++) cut_short(deepest[i], most[i]);
+    printf("stack: with less than their need these end by SIGSEGV\n");
     if (pthread_attr_init(&attr) || pthread_attr_setstacksize(&attr, KEYMOVE_STACK_BYTES)) stop("no thread of this size");
     if (in_thread(&attr, run_all, NULL)) stop("another answer in a thread of KEYMOVE_STACK_BYTES");
     printf("stack: all calls run in a thread of KEYMOVE_STACK_BYTES, %d\n", KEYMOVE_STACK_BYTES);

@@ -2,3 +2,4 @@
 pub mod Searching
 pub mod Calling
 pub mod Reading
+pub mod Sessions

@@ -1,4 +1,4 @@
--- An answer as four words for callers in C and Rust: its kind (0 exact, 1 none, 2 spent, 3 refused); the move, or the refusal's number; the bits of the value, or the line; the count.
+-- An answer as four words for callers in C and Rust: its kind (0 exact, 1 none, 2 spent, 3 refused; 4 is for opening, specs/Sessions); the move, or the refusal's number; the bits of the value, or the line; the count.
 -- Assumes nothing.
 use Rattle.std.specs.Prelude.{Bool, true, false, List, [], ◌∷◌, ◌++◌, ℕ, ltb, length, drop}
 pub use Rattle.whole.specs.Bits.{value_bits}

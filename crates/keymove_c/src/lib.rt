@@ -1,10 +1,15 @@
-// The call for programs in C and Rust: the arguments of game::choose, and four words for the answer (specs/Encoding). A slice is a pointer and a length.
+// The call for programs in C and Rust: the arguments of game::choose, and four words for the answer (specs/Encoding). A slice is a pointer and a length. (The entries for sessions
+// are in entries.rt.)
 
 #![tactic(auto)]
 
 ghost use Rattle.std.specs.Prelude.{◌≡◌, [], ◌∷◌, ◌++◌, ◌≤◌, length, take, drop};
 ghost use Rattle.keymove_c.specs.Encoding.{encoded, served, entry_of};
 ghost use Rattle.rules.specs.Call.{asked};
+
+mod entries;
+mod session;
+mod state;
 
 use rules::Answer;
 
@@ -25,11 +30,11 @@ fn words_of(answer: Answer) -> [u64; 4]
 }
 
 // Writes the four words of an answer; what lies behind them is as before.
-fn encode(answer: Answer, out: &mut [u64])
+fn put_answer(four: [u64; 4], out: &mut [u64])
     requires { 4 ≤ length out.old }
-    ensures { out.new ≡ encoded answer ++ drop 4 out.old }
+    ensures { out.new ≡ four ++ drop 4 out.old }
 {
-    out[..4].copy_from_slice(&words_of(answer));
+    out[..4].copy_from_slice(&four);
 }
 
 // The call. Where out has fewer than four words it does nothing at all. (Nine parameters: the C interface.)
@@ -51,5 +56,5 @@ pub extern "C" fn keymove_choose(
         return;
     }
     let answer = game::choose(sheet, budget, entries, driver, filters, chain, words, tags);
-    encode(answer, out);
+    put_answer(words_of(answer), out);
 }

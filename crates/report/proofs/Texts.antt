@@ -1,6 +1,6 @@
--- A report as the pieces that are written: numbers in decimal by the library's definition. Assumes nothing.
+-- An answer's line as the pieces that are written: numbers in decimal by the library's definition. Assumes nothing.
 use Rattle.std.proofs.Common.{◌≡◌, length, length-append, ℕ, zero, suc, ◌+◌, ◌/◌, ◌^◌, ◌<◌, ◌≤◌, ltb, ltb-true, ltb-false, List, [], ◌∷◌, ◌++◌, ℤ, pos, negsuc, ap, sym, ◌∙◌, refl, pow-suc, arith, append_assoc, w64, to_z, of_z, to_z-of_z}
-use Rattle.std.proofs.lemmas.Fmt.{decimal_digit, decimal_step, length-decimal-le, length_signed_le}
+use Rattle.std.proofs.lemmas.Fmt.{decimal_digit, decimal_step}
 use Rattle.std.specs.Fmt.{decimal, signed_decimal}
 use mathlib.Core.Option.{Option, none, some}
 use lib.Ieee.{Float, to_signed}
@@ -8,11 +8,10 @@ use lib.Signed.{mag}
 use lib.Ieee.Casts.{to_signed_in}
 use Rattle.words.proofs.Lists.{by_test}
 use Rattle.rules.specs.declared.Refusal.{Refusal}
-use Rattle.rules.specs.declared.Refusal.TheVariants.{Sheet, Range, Roll, Settings, NoGoals, Memory, Unsettled, Mixed, Spilled, Endless, Wide, Deep}
 use Rattle.rules.specs.declared.Answer.{Answer}
 use Rattle.rules.specs.declared.Answer.TheVariants.{Exact, None, Spent, Refused}
 use Rattle.rules.specs.Text.{bytes}
-use Rattle.rules.specs.Answer.{refusal_number, columns, digits, shown, report}
+use Rattle.rules.specs.Answer.{refusal_number, columns, digits, shown, answer_line, report}
 
 pub digits_decimal : (k n : ℕ) → n < 10 ^ suc k → n < 2 ^ 64 → digits k n ≡ decimal n
 unfolding digits
@@ -31,21 +30,21 @@ shown_signed (pos n) f = digits_decimal 19 n (omega arith) (omega arith)
 shown_signed (negsuc n) f = ap (λ (l : List ℕ). 45 ∷ l) (digits_decimal 19 (suc n) (omega arith) (omega arith))
 
 pub exact_text : (t n : ℕ) (v : Float) → t < 2 ^ 64 → n < 2 ^ 64 → mag (to_signed 63 v) < 2 ^ 63
-    → report (Exact t v n) ≡ bytes "answer move value nodes\nexact " ++ (decimal t ++ (bytes " " ++ (signed_decimal (to_signed 63 v) ++ (bytes " " ++ (decimal n ++ bytes "\n")))))
-unfolding report
+    → answer_line (Exact t v n) ≡ bytes "exact " ++ (decimal t ++ (bytes " " ++ (signed_decimal (to_signed 63 v) ++ (bytes " " ++ (decimal n ++ bytes "\n")))))
+unfolding answer_line
 exact_text t n v a b f = rw (sym (shown_decimal t a), sym (shown_decimal n b), sym (shown_signed (to_signed 63 v) f)) (simp append_assoc)
 
-pub none_text : report None ≡ bytes "answer move value nodes\nnone - - 0\n"
-unfolding report shown digits
+pub none_text : answer_line None ≡ bytes "none - - 0\n"
+unfolding answer_line shown digits
 none_text = refl
 
-pub spent_text : (n : ℕ) → n < 2 ^ 64 → report (Spent n) ≡ bytes "answer move value nodes\nspent - - " ++ (decimal n ++ bytes "\n")
-unfolding report shown
+pub spent_text : (n : ℕ) → n < 2 ^ 64 → answer_line (Spent n) ≡ bytes "spent - - " ++ (decimal n ++ bytes "\n")
+unfolding answer_line shown
 spent_text n b = rw (sym (shown_decimal n b)) (simp append_assoc)
 
 pub refused_text : (x : Refusal) (l n k : ℕ) → k ≡ refusal_number x → k < 2 ^ 64 → l < 2 ^ 64 → n < 2 ^ 64
-    → report (Refused x l n) ≡ bytes "answer move value nodes\nrefused " ++ (decimal k ++ (bytes " " ++ (decimal l ++ (bytes " " ++ (decimal n ++ bytes "\n")))))
-unfolding report
+    → answer_line (Refused x l n) ≡ bytes "refused " ++ (decimal k ++ (bytes " " ++ (decimal l ++ (bytes " " ++ (decimal n ++ bytes "\n")))))
+unfolding answer_line
 refused_text x l n k e a b f = rw (sym (shown_decimal k a), sym (shown_decimal l b), sym (shown_decimal n f), e) (simp append_assoc)
 
 -- a whole part, as it is handed on
@@ -75,6 +74,6 @@ word_length (Spent n) = omega arith
 word_length (Refused x l n) = omega arith
 
 pub fits : (a : Answer) → length (report a) ≤ 128
-unfolding report
+unfolding report answer_line
 fits a =
     simp length-append (omega (arith, word_length a, shown_length (columns a).move, shown_length (columns a).value, shown_length (some (pos (columns a).nodes))))

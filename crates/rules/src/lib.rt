@@ -1,11 +1,11 @@
-// The answers of a call, which the definitions in specs/ speak of: document 01, "The call", and its refusals 1 to 12 in their order.
+// The answers of a call, which the definitions in specs/ speak of: document 01, "The call", and its refusals 1 to 12 in their order, and 13 of document 02, L1.
 
 #![tactic(auto)]
 
 ghost use Rattle.std.specs.Prelude.{◌≡◌};
 ghost use Rattle.rules.specs.Answer.{refusal_number};
 
-// Why a call is refused: 1 to 7 from the input, 8 to 12 from the state of a search.
+// Why a call is refused: 1 to 7 from the input, 8 to 12 from the state of a search, 13 from the marking that a session is given.
 #[derive(Clone, Copy)]
 pub enum Refusal {
     Sheet,
@@ -20,6 +20,7 @@ pub enum Refusal {
     Endless,
     Wide,
     Deep,
+    Marking,
 }
 
 impl From<Refusal> for u64 {
@@ -39,6 +40,7 @@ impl From<Refusal> for u64 {
             Refusal::Endless => 10,
             Refusal::Wide => 11,
             Refusal::Deep => 12,
+            Refusal::Marking => 13,
         }
     }
 }

@@ -31,7 +31,7 @@ Fits (some b) n = n ≤ b
 
 module _ (G : Game) where
   -- a game's own values
-  abbrev own : Values G.Pos
+  abbrev pub own : Values G.Pos
   own = record { Value = G.Value; leb = G.leb; score = G.score; low = G.low; high = G.high }
 
   -- A search runs in step with itself.
@@ -40,7 +40,7 @@ module _ (G : Game) where
   entries_refl none = tt
   entries_refl (some e) = record { bounds_rel = record { lo_rel = refl; hi_rel = refl }; best_same = refl }
 
-  itself : (μ : Memory G) → InStep G own μ μ ◌≡◌ ◌≡◌ (λ p. Unit {0})
+  pub itself : (μ : Memory G) → InStep G own μ μ ◌≡◌ ◌≡◌ (λ p. Unit {0})
   itself μ = record {
     values = record { leb_same = λ a b x y h k. rw (h, k) refl; low_rel = refl; high_rel = refl; score_rel = λ p. refl };
     get_rel = λ m n p r e. rw e (entries_refl (μ.get n p));
@@ -50,10 +50,10 @@ module _ (G : Game) where
       alike : (m n : μ.Memo) (p : G.Pos) (e f : Entry G.Value) (work : ℕ) → m ≡ n → e.bounds.lo ≡ f.bounds.lo → e.bounds.hi ≡ f.bounds.hi → e.best ≡ f.best → μ.store m p e work ≡ μ.store n p f work
       alike m n p e f work h a b c = λ i. μ.store (h i) p (record { bounds = record { lo = a i; hi = b i }; best = c i }) work
 
-  closed : (π : Policy G.Pos) → Closed G (λ p. Unit {0}) π
+  pub closed : (π : Policy G.Pos) → Closed G (λ p. Unit {0}) π
   closed π = record { play_real = λ p t q r e. tt; arrange_real = λ h b s l a c i. tt }
 
-  driver_itself : (δ : Driver G) → Drivers G own ◌≡◌ δ δ
+  pub driver_itself : (δ : Driver G) → Drivers G own ◌≡◌ δ δ
   driver_itself single = tt
   driver_itself (scout σ) = record { gaps_same = refl; at_rel = λ n. refl; above_same = λ a b v x y u h k l. rw (h, k, l) refl }
   driver_itself (mtd σ) = record { gaps_same = refl; at_rel = λ n. refl; above_same = λ a b v x y u h k l. rw (h, k, l) refl }

@@ -1,16 +1,19 @@
 -- f64 AND INTEGERS: a call over f64 runs in step with the same call over integers, with the same memo, where scores and bounds are whole.
 -- Assumes nothing.
-use mathlib.Core.Path.{◌≡◌, refl, sym, ap}
-use mathlib.Core.Bool.{true}
+use mathlib.Core.Path.{◌≡◌, refl, sym, ap, ◌∙◌}
+use mathlib.Core.Bool.{true, false}
 use mathlib.Core.Option.{some}
 use mathlib.Core.List.{List}
-use Prim.Native.Nat.{ℕ}
+use Prim.Native.Nat.{ℕ, ◌^◌}
+use native.Mathlib.Omega.{arith}
+use lib.Dec.{eqb}
 use lib.IntN.{ℤ}
 use lib.Signed.{le_z}
-use lib.Ieee.{Float, binary64, to_bits}
+use lib.Ieee.{Float, binary64, of_bits, to_bits}
 use borrow.Author.Tests.{eq-eqb}
 use Rattle.whole.specs.Whole.{whole_f, Small, Whole}
-use Rattle.whole.proofs.Wholes.{whole, bits_back, whole_to_signed, le_whole, midpoint_lt}
+use Rattle.whole.proofs.Wholes.{whole, bits_back, neg_zero_bits, neg_zero_back, not_neg_zero, whole_to_signed, le_whole, midpoint_lt}
+use Rattle.std.proofs.lemmas.Bool.{ne_eqb}
 use Rattle.rules.specs.Game.{Game, Values, valued, max, min}
 use Rattle.rules.specs.Memo.{Shape, memory}
 use Rattle.rules.specs.Codes.{float_number, float_code, int_bits, int_number, int_code, int_values, float_values, int_above, float_above}
@@ -36,11 +39,16 @@ int_reads {z} h =
     let w = whole h.is_small in
     rw (bits_back w, whole_to_signed w, eq-eqb (to_bits binary64 (whole_f z)) (to_bits binary64 (whole_f z)) refl, h.from_low, h.to_high) refl
 
+-- no such word is -0.0's
+not_neg_zero_bits : {z : ℤ} → Small z → eqb (int_bits z) (2 ^ 63) ≡ false
+unfolding int_bits
+not_neg_zero_bits {z} h = ne_eqb _ _ (λ e. not_neg_zero z (omega (arith, h.size)) (sym (bits_back (whole h)) ∙ ap (of_bits binary64) (e ∙ sym neg_zero_bits) ∙ neg_zero_back))
+
 float_reads : {low high z : ℤ} {x y : Float} → Whole x low → Whole y high → SmallBetween low high z → float_number x y (int_bits z) ≡ some (whole_f z)
 unfolding float_number int_bits
 float_reads v u h =
     let w = whole h.is_small in
-    rw (bits_back w, le_whole v w, le_whole w u, h.from_low, h.to_high) refl
+    rw (not_neg_zero_bits h.is_small, bits_back w, le_whole v w, le_whole w u, h.from_low, h.to_high) refl
 
 -- Play `P`, integer scores and bounds, and the f64 that they are.
 module _ (P : Game) (score : P.Pos → ℤ) (low high : ℤ) (float_score : P.Pos → Float) (float_low float_high : Float)

@@ -5,6 +5,7 @@
 -- value. Theorem 4, `Choose` and `Call`: the key's child has the root's value, under the premises on play the minimax value.
 -- `Causes`: a refusal from the state has a cause in play. `Memo`: the memo meets `Laws`. `Counting`: a count for each run, as 01 has it, is the same as one throughout. `Simulation`, `InStep`, `Floats`: f64 in step with integers.
 -- `NetCall`: the game, the settings and the drivers of a net within the limits meet all that `Theorems` asks; `SheetLimits`: an accepted sheet gives such a net.
+-- `Sessions`: what opening a session and a choice in it promise, of `Generation` and `Picks`; `SessionDictionary`: its dictionary never fills.
 -- Assumes nothing.
 pub mod Promised
 pub mod Demand3
@@ -50,6 +51,7 @@ pub mod Floats
 pub mod Theorems
 pub mod RootRun
 pub mod MemoWide
+pub mod Generation
 -- play on a net
 pub mod Settling
 pub mod Fits
@@ -73,3 +75,7 @@ pub mod NetFloats
 -- the call on a net
 pub mod NetCall
 pub mod Sheets
+-- sessions
+pub mod Picks
+pub mod Sessions
+pub mod SessionDictionary

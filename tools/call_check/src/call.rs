@@ -29,11 +29,11 @@ extern "C" {
 }
 
 /// The four words as an answer, or why they are none.
-fn decoded(out: &[u64]) -> Result<Answer, String> {
+pub fn decoded(out: &[u64]) -> Result<Answer, String> {
     let &[kind, a, b, nodes] = out else { return Err("not four words".into()) };
     let value = f64::from_bits(b);
     match kind {
-        0 if value as i64 as f64 == value && value.to_bits() != (-0.0f64).to_bits() => {
+        0 if !value.is_nan() && b != (-0.0f64).to_bits() => {
             Ok(Answer::Exact { mv: a as usize, value, nodes })
         }
         1 if a == 0 && b == 0 && nodes == 0 => Ok(Answer::None),
@@ -45,20 +45,20 @@ fn decoded(out: &[u64]) -> Result<Answer, String> {
 
 /// Guards before and behind each buffer.
 const GUARD: usize = 16;
-const WORD: u64 = 0x5EED_5EED_5EED_5EED;
-const BYTE: u8 = 0xD5;
+pub const WORD: u64 = 0x5EED_5EED_5EED_5EED;
+pub const BYTE: u8 = 0xD5;
 
 /// A copy of `inner` between two guards.
-fn guarded<T: Copy>(inner: &[T], guard: T) -> Vec<T> {
+pub fn guarded<T: Copy>(inner: &[T], guard: T) -> Vec<T> {
     [&[guard; GUARD], inner, &[guard; GUARD]].concat()
 }
 
-fn intact<T: PartialEq>(all: &[T], guard: T) -> bool {
+pub fn intact<T: PartialEq>(all: &[T], guard: T) -> bool {
     all[..GUARD].iter().chain(&all[all.len() - GUARD..]).all(|x| *x == guard)
 }
 
 /// What is lent between the guards.
-fn inner<T>(all: &mut [T]) -> &mut [T] {
+pub fn inner<T>(all: &mut [T]) -> &mut [T] {
     let end = all.len() - GUARD;
     &mut all[GUARD..end]
 }
@@ -100,7 +100,10 @@ fn raw(sheet: &[u8], s: &Settings, words: &mut [u64], tags: &mut [u8], n: usize)
 
 /// The call.
 pub fn call(sheet: &[u8], s: &Settings, words: &mut [u64], tags: &mut [u8]) -> Result<Answer, String> {
-    decoded(&raw(sheet, s, words, tags, 4)?)
+    match decoded(&raw(sheet, s, words, tags, 4)?)? {
+        Answer::Exact { value, .. } if value.fract() != 0.0 => Err(format!("{value} is no whole number")),
+        answer => Ok(answer),
+    }
 }
 
 /// Whether the call with `n` words for the answer, fewer than four, does nothing; with more than

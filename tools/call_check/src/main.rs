@@ -6,6 +6,8 @@
 //! has an answer. For refusals 5, 8 and 10 that is its error, for 9 its change to counted markings,
 //! and from a count of 1 on its answer and its memo with one node less; for 11 and 12 the latter
 //! alone; for 1 to 4, 6 and 7 it has none.
+//! Sessions are held to our own reading of them in the same way (sessions.rs); tools/oracle holds
+//! that to the Rust.
 #![allow(dead_code)]
 
 mod call;
@@ -19,11 +21,16 @@ mod random;
 mod reference;
 #[path = "../../oracle/src/rust.rs"]
 mod rust;
+#[path = "../../oracle/src/scenes.rs"]
+mod scenes;
+mod session;
+mod sessions;
 
 use compare::{budgets, Counts};
 use random::Random;
 use reference::{memo::Shape, net::Net, sheet, Answer, Settings};
 use rust::Rust;
+use sessions::Sessions;
 use std::collections::BTreeSet;
 
 /// The most bytes of a sheet.
@@ -67,6 +74,7 @@ struct Seen {
     small_stack: usize,
     /// Kinds of calls whose input was not refused.
     kinds: BTreeSet<String>,
+    sessions: Sessions,
 }
 
 /// The kinds of calls that a run must have seen.
@@ -98,13 +106,6 @@ fn kinds() -> BTreeSet<String> {
         "a deep line",
     ];
     settings.chain(chains).chain(pieces).chain(rest.map(String::from)).collect()
-}
-
-/// Memory of random contents.
-fn memory(r: &mut Random, words: usize, tags: usize) -> (Vec<u64>, Vec<u8>) {
-    let mut word = || (r.below(1 << 32) as u64) << 32 | r.below(1 << 32) as u64;
-    let words = (0..words).map(|_| word()).collect();
-    (words, (0..tags).map(|_| r.below(256) as u8).collect())
 }
 
 /// Runs `f` on a thread with 4 MiB of stack, which a call has to do with.
@@ -175,7 +176,7 @@ impl Seen {
         lent: (usize, usize),
         small: bool,
     ) -> Result<Answer, String> {
-        let before = memory(r, lent.0, lent.1);
+        let before = (scenes::words(r, lent.0), scenes::bytes(r, lent.1));
         let (mut rw, mut rt) = before.clone();
         let (want, _) = reference::call(text, s, &mut rw, &mut rt);
         let deep = matches!(want, Answer::Refused { number: 12, .. });
@@ -290,6 +291,7 @@ impl Seen {
             }
         }
         self.spoiled(r, &text);
+        self.sessions.on(r, &text, &net);
     }
 
     /// Damaged sheets, and settings out of their ranges.
@@ -345,7 +347,8 @@ fn run() -> i32 {
     }
     println!("{} calls had 4 MiB of stack", seen.small_stack);
     println!("{} calls, {} with the Rust, {} differ", seen.calls, seen.with_rust, seen.differ);
-    (seen.differ > 0 || !whole || !missing.is_empty()) as i32
+    let sessions = seen.sessions.report();
+    (seen.differ > 0 || !whole || !missing.is_empty() || !sessions) as i32
 }
 
 fn main() {

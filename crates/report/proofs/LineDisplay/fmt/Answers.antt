@@ -2,7 +2,7 @@
 use Rattle.std.proofs.Common.{◌<◌, ◌^◌, sym, arith}
 use lib.Ieee.Casts.{to_signed_in}
 use Rattle.report.proofs.Texts.{exact_text, none_text, spent_text, refused_text, passed}
-use Rattle.report.proofs.ReportDisplay.fmt.Goals as goal
+use Rattle.report.proofs.LineDisplay.fmt.Goals as goal
 
 pub returns-in-Exact-clause-writes : goal.returns-in-Exact-clause-writes
 returns-in-Exact-clause-writes g c = λ plain ok.

@@ -1,0 +1,2 @@
+-- Assumes nothing.
+pub mod Undoing
