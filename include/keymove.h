@@ -135,7 +135,7 @@ enum {
     KEYMOVE_REFUSED_UNSETTLED = 7, /* an automatic transition is enabled in the marking */
     KEYMOVE_REFUSED_MIXED = 8,     /* a position has moves of two sides, or of side 0 */
     KEYMOVE_REFUSED_SPILLED = 9,   /* a firing would leave a place with neither 0 nor 1 token */
-    KEYMOVE_REFUSED_ENDLESS = 10,  /* 10,000 automatic firings after one move */
+    KEYMOVE_REFUSED_ENDLESS = 10,  /* a 10,001st automatic firing is enabled after a move */
     KEYMOVE_REFUSED_WIDE = 11,     /* over 64 moves in a position */
     KEYMOVE_REFUSED_DEEP = 12,     /* a node 65 moves below the root of its run */
     KEYMOVE_REFUSED_MARKING = 13   /* a bit of a marking is set at the number of places or beyond */

@@ -73,7 +73,8 @@ impl fmt::Display for Reason {
             Refusal::Unsettled => "an automatic transition is enabled where the search starts",
             Refusal::Mixed => "moves of two sides, or of side 0, in one position",
             Refusal::Spilled => "a firing would leave 0/1",
-            Refusal::Endless => "10,000 automatic firings after one move",
+            Refusal::Endless =>
+                "an automatic transition is still enabled when 10,000 have fired after one move",
             Refusal::Wide => "more than 64 moves in one position",
             Refusal::Deep => "a node 65 moves below its run's root",
             Refusal::Marking => "a bit is set at the number of places or beyond",

@@ -1,4 +1,4 @@
--- Document 01 as definitions, and what a call promises; of 02 the sessions (L1). Each file rests on those before it; 01 begins with the call and goes inwards, so beside it the files are read from the end:
+-- Document 01 as definitions, and what a call promises; of 02 the sessions (L1) and the end of a settling (L2). Each file rests on those before it; 01 begins with the call and goes inwards, so beside it the files are read from the end:
 -- Promise, Answer, Call, then Choose, Drivers, Search, Play, Minimax, Memo. Assumes nothing.
 pub mod Limits
 pub mod Text

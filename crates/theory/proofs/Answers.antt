@@ -31,7 +31,7 @@ pub condition_number : {net : Net} {m : Marking} {x : Refusal} → Condition net
 condition_number (mixed l i n) = (omega arith, omega arith)
 condition_number (move_spills l i e) = (omega arith, omega arith)
 condition_number (auto_spills l i e f k a s) = (omega arith, omega arith)
-condition_number (endless l i e f) = (omega arith, omega arith)
+condition_number (endless l i e f a) = (omega arith, omega arith)
 condition_number (wide l w) = (omega arith, omega arith)
 condition_number (deep l d) = (omega arith, omega arith)
 
@@ -40,7 +40,7 @@ pub condition_late : {net : Net} {m : Marking} {x : Refusal} → Condition net m
 condition_late (mixed l i n) = refl
 condition_late (move_spills l i e) = refl
 condition_late (auto_spills l i e f k a s) = refl
-condition_late (endless l i e f) = refl
+condition_late (endless l i e f a) = refl
 condition_late (wide l w) = refl
 condition_late (deep l d) = refl
 

@@ -76,7 +76,7 @@ module _ (net : Net) where
   line_fits (by i s l) zero h = absurd (true≢false (cc))
   line_fits {p} (by {q} {t} i s l) (suc d) h =
       let (r, e, f) = (fit d p h).next t i in
-      let (k, lt, z) = play_settles net p t r e in
+      let (k, le, z) = play_settles net p t r e in
       let (n, same) = settles_unique net z s in
       let (b, left, g) = line_fits l d (rw same at f) in
       (b, omega arith, g)
@@ -84,20 +84,20 @@ module _ (net : Net) where
   -- if a marking fits a depth within the limit, the premises hold from it
   pub fits_premises : (m : Marking) (d : ℕ) → d ≤ suc max_depth → fits d m ≡ true → Premises net m
   fits_premises m d small h = record {
-    moves_fire = λ l p t line i. let (k, q, lt, s) = quiet l p t line i in (s.between, s.moved);
-    autos_fire = λ l p t q k r u line i e f a. let (j, z, lt, s) = quiet l p t line i in settles_fires net s e f a;
+    moves_fire = λ l p t line i. let (k, q, le, s) = quiet l p t line i in (s.between, s.moved);
+    autos_fire = λ l p t q k r u line i e f a. let (j, z, le, s) = quiet l p t line i in settles_fires net s e f a;
     settles = quiet;
     one_side = λ l p line. let (e, left, f) = line_fits line d h in fit_side p f.side;
     narrow = λ l p line. let (e, left, f) = line_fits line d h in f.narrow;
     short = λ l p line. let (e, left, f) = line_fits line d h in omega arith;
   }
     where
-      quiet : (l : List ℕ) (p : Marking) (t : ℕ) → Line net m l p → t ∈ moves net p → (k : ℕ) × (q : Marking) × (k < max_firings) × Settles net p t k q
+      quiet : (l : List ℕ) (p : Marking) (t : ℕ) → Line net m l p → t ∈ moves net p → (k : ℕ) × (q : Marking) × (k ≤ max_firings) × Settles net p t k q
       quiet l p t line i =
           let (e, left, f) = line_fits line d h in
           let (q, plays, g) = f.next t i in
-          let (k, lt, s) = play_settles net p t q plays in
-          (k, q, lt, s)
+          let (k, le, s) = play_settles net p t q plays in
+          (k, q, le, s)
 
   -- The converse: where the premises hold, the marking fits.
 
@@ -122,8 +122,8 @@ module _ (net : Net) where
         rw (le-leb _ _ (P.narrow l p line), side_sided p s h)
         (in_all (λ t. leads (fits d) (play net p t)) (moves net p)
         (λ t i.
-        let (k, q, lt, z) = P.settles l p t line i in
-        rw (settles_play net lt z) (reached_fits d (line_then line i z) (omega (arith, length-append l (t ∷ []))))))
+        let (k, q, le, z) = P.settles l p t line i in
+        rw (settles_play net le z) (reached_fits d (line_then line i z) (omega (arith, length-append l (t ∷ []))))))
 
     pub premises_fits : fits (suc max_depth) m ≡ true
     premises_fits = reached_fits (suc max_depth) here (omega arith)

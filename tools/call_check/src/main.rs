@@ -1,11 +1,12 @@
-//! The call on random sheets and settings. Each call is held to our own reading of 01
+//! The call on random sheets and settings. Each call is held to our own reading of 01 and 02
 //! (tools/oracle/src/reference) on memory with the same random contents: the answer, the count,
 //! every word and tag that is lent, and that nothing else is written. For the same net and settings
 //! our reading is held to the Rust (`rust::agrees`), so the call is held to the Rust through our
 //! reading: the answer, the count, every word and tag of the memo and its dictionary, where the Rust
 //! has an answer. For refusals 5, 8 and 10 that is its error, for 9 its change to counted markings,
 //! and from a count of 1 on its answer and its memo with one node less; for 11 and 12 the latter
-//! alone; for 1 to 4, 6 and 7 it has none.
+//! alone; for 1 to 4, 6 and 7 it has none. Where a settling comes to rest with the last firing
+//! allowed, the Rust is held to our reading by the Rust's rule (02, L2).
 //! Sessions are held to our own reading of them in the same way (sessions.rs); tools/oracle holds
 //! that to the Rust.
 #![allow(dead_code)]
@@ -29,7 +30,7 @@ mod sessions;
 use compare::{budgets, Counts};
 use random::Random;
 use reference::{memo::Shape, net::Net, sheet, Answer, Settings};
-use rust::Rust;
+use rust::{Held, Rust};
 use sessions::Sessions;
 use std::collections::BTreeSet;
 
@@ -70,6 +71,8 @@ struct Seen {
     counts: Counts,
     calls: usize,
     with_rust: usize,
+    /// Calls in which a settling came to rest with the last firing allowed.
+    by_rust_rule: usize,
     differ: usize,
     small_stack: usize,
     /// Kinds of calls whose input was not refused.
@@ -104,6 +107,7 @@ fn kinds() -> BTreeSet<String> {
         "an empty sheet",
         "a game",
         "a deep line",
+        "a long settling",
     ];
     settings.chain(chains).chain(pieces).chain(rest.map(String::from)).collect()
 }
@@ -261,6 +265,7 @@ impl Seen {
             0 => (game(r.of(&GAMES)), "a game"),
             1 => (game(r.of(&DEEP)), "a deep line"),
             2 => (long(r), "a sheet of 65536 bytes"),
+            3..=5 => (random::long_settling(r).text(), "a long settling"),
             _ => (random::sheet(r).text(), ""),
         };
         if !kind.is_empty() {
@@ -283,7 +288,9 @@ impl Seen {
                 if got.is_ok() && lent.0 >= shape.words() && lent.1 >= shape.rows() {
                     // Our reading is held to the Rust, with its memo.
                     match rust::agrees(&net, &rust, &s) {
-                        Ok((_, with_rust)) => self.with_rust += with_rust as usize,
+                        Ok((_, Held::Same)) => self.with_rust += 1,
+                        Ok((_, Held::ByRustRule)) => self.by_rust_rule += 1,
+                        Ok((_, Held::Alone)) => {}
                         Err(why) => got = Err(why),
                     }
                 }
@@ -346,9 +353,10 @@ fn run() -> i32 {
         println!("never called: {}", missing.join(", "));
     }
     println!("{} calls had 4 MiB of stack", seen.small_stack);
+    println!("{} calls by the Rust's rule of settling", seen.by_rust_rule);
     println!("{} calls, {} with the Rust, {} differ", seen.calls, seen.with_rust, seen.differ);
     let sessions = seen.sessions.report();
-    (seen.differ > 0 || !whole || !missing.is_empty() || !sessions) as i32
+    (seen.differ > 0 || !whole || !missing.is_empty() || !sessions || seen.by_rust_rule == 0) as i32
 }
 
 fn main() {

@@ -15,11 +15,12 @@ use crate::session::{size, whole, Given, Opening, Words};
 const NET_WORDS: usize = 75_264;
 
 /// What a run must meet beside each answer and refusal.
-const ELSE: [&str; 14] = [
+const ELSE: [&str; 15] = [
     "opened",
     "exact with count 0",
     "no child",
     "first generation again",
+    "a settling at its limit",
     "opened with too few words",
     "chosen with too few words",
     "opened with few for out",
@@ -226,7 +227,8 @@ impl Sessions {
         self.picks += 1;
         let (before, generation) = (b.theirs.copy(), b.ours.generation);
         let (mut words, mut tags) = (b.words.clone(), b.tags.clone());
-        let want = b.ours.choose(b.net, budget, m, &mut b.words[..w], &mut b.tags[..t]);
+        let (want, at_limit) =
+            b.net.noting_limit(|| b.ours.choose(b.net, budget, m, &mut b.words[..w], &mut b.tags[..t]));
         let given = Given { out: 4 + r.below(3), ..whole() };
         let mut choose = || b.theirs.pick(given, budget, m, &mut words[..w], &mut tags[..t]);
         let small = matches!(want, Answer::Refused { number: 12, .. }) || r.once_in(20);
@@ -245,6 +247,9 @@ impl Sessions {
         self.met.answer(&got, budget);
         if given.out > 4 {
             self.met.add("more for the answer");
+        }
+        if at_limit {
+            self.met.add("a settling at its limit");
         }
         if generation == 127 && !matches!(got, Answer::Refused { .. }) {
             self.met.add("first generation again");

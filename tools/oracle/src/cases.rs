@@ -160,6 +160,30 @@ fn expected(got: &[String; 2], want: &[&str]) -> bool {
     }
 }
 
+/// A file of cases, each operation with what it gives now in the place of what
+/// stood there.
+pub fn renew(text: &str) -> Option<String> {
+    let mut replay = Replay::default();
+    let mut out = String::new();
+    let mut lines = text.split_terminator('\n').peekable();
+    while let Some(line) = lines.next() {
+        out += &format!("{line}\n");
+        if line.starts_with("sheet ") {
+            replay.sheet = sheet_lines(line, &mut lines)?;
+            out += std::str::from_utf8(&replay.sheet).ok()?;
+            continue;
+        }
+        let got = replay.operation(line)?;
+        while let Some(want) = lines.next_if(|l| l.starts_with("> ")) {
+            out += &match want.strip_prefix("> memory ") {
+                Some(_) => format!("> memory {}\n", got[1]),
+                None => format!("> {}\n", got[0]),
+            };
+        }
+    }
+    Some(out)
+}
+
 /// Replays a file of cases; true if each operation gives what stands there.
 pub fn check(text: &str) -> bool {
     let (mut replay, mut counts) = (Replay::default(), Counts::default());

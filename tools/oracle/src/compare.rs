@@ -3,7 +3,7 @@
 
 use crate::random::{self, Random};
 use crate::reference::{call, net::Net, sheet, Answer, Settings};
-use crate::rust::{agrees, refer, Rust};
+use crate::rust::{agrees, refer, Held, Rust};
 use std::collections::BTreeMap;
 
 /// A budget that stands for none.
@@ -55,9 +55,9 @@ pub fn budgets(r: &mut Random, net: &Net, s: &Settings) -> Vec<u64> {
 pub fn run(seed: u64, nets: usize) -> bool {
     let mut r = Random(seed);
     let mut counts = Counts::default();
-    let (mut calls, mut compared) = (0, 0);
+    let (mut calls, mut compared, mut by_rust_rule) = (0, 0, 0);
     for n in 0..nets {
-        let text = random::sheet(&mut r).text();
+        let text = random::sheet_or_long(&mut r, n).text();
         let net = Net::new(sheet::read(text.as_bytes()).expect("a random sheet is rightful"));
         let rust = Rust::new(&net);
         for _ in 0..6 {
@@ -66,9 +66,10 @@ pub fn run(seed: u64, nets: usize) -> bool {
                 let s = Settings { budget, ..s.clone() };
                 calls += 1;
                 match agrees(&net, &rust, &s) {
-                    Ok((answer, with_rust)) => {
+                    Ok((answer, held)) => {
                         counts.add(&answer);
-                        compared += with_rust as usize;
+                        compared += (held == Held::Same) as usize;
+                        by_rust_rule += (held == Held::ByRustRule) as usize;
                     }
                     Err(why) => {
                         println!("net {n} of seed {seed}: {s:?}\n{why}\n{text}");
@@ -97,7 +98,8 @@ pub fn run(seed: u64, nets: usize) -> bool {
         counts.add(&answer);
     }
     println!("{nets} nets, {calls} calls, {compared} with the Rust's answer and memo the same");
+    println!("{by_rust_rule} more by the Rust's rule of settling");
     let (lines, whole) = counts.table();
     print!("{lines}");
-    whole
+    whole && by_rust_rule > 0
 }

@@ -27,6 +27,7 @@ oracle read-list FILE              what our own reader gives of each sheet of a 
 oracle make-walks BY-HAND          the list of walks on nets
 oracle walk-list FILE              what the Rust gives on it
 oracle cases FILE                  replays a file of cases for 02's requests by our own reading
+oracle renew-cases FILE            the file with what our own reading gives now
 oracle memo-list                   what the Rust's memo gives on the runs of memo_check
 OPTIONS: budget=1000 entries=1024 driver=1 filters=1 chain=012 memo";
 
@@ -61,6 +62,7 @@ fn start() -> i32 {
         ["read-list", file] => printed(file, list::read),
         ["make-walks", file] => printed(file, walk::make),
         ["walk-list", file] => printed(file, walk::replay),
+        ["renew-cases", file] => printed(file, cases::renew),
         ["memo-list"] => {
             print!("{}", pflow::memo::ours::runs::all());
             0

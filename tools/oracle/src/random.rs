@@ -245,7 +245,31 @@ fn cascade(r: &mut Random) -> Draft {
         return draft::counter(14, 9_990 + r.below(14), spills);
     }
     let (n, spills) = (r.below(60), r.once_in(6));
-    let mut d = draft::counter(6, n, spills);
+    counted(r, draft::counter(6, n, spills))
+}
+
+/// The n-th of random sheets: one in thirty has a long settling.
+pub fn sheet_or_long(r: &mut Random, n: usize) -> Draft {
+    if n % 30 == 29 {
+        long_settling(r)
+    } else {
+        sheet(r)
+    }
+}
+
+/// A settling of about the most firings that are allowed.
+pub fn long_settling(r: &mut Random) -> Draft {
+    let (firings, spills) = (r.of(&[9_999, 10_000, 10_000, 10_001]), r.once_in(3));
+    let d = draft::counter(14, firings, spills);
+    if r.once_in(3) {
+        d
+    } else {
+        counted(r, d)
+    }
+}
+
+/// Moves of the other side after a counter.
+fn counted(r: &mut Random, mut d: Draft) -> Draft {
     let last = d.marks.len() - 1;
     let end = d.places(2, false);
     d.turn(-1, &[last], &[end[0]]);

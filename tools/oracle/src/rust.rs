@@ -1,6 +1,6 @@
 //! Calls the Rust on a net, and holds the reference's answer against it.
 
-use crate::reference::{call_net, memo::Shape, net::tokens, net::Net, Answer, Settings};
+use crate::reference::{call_net, memo::Shape, net::Net, Answer, Settings};
 use pflow::error::Error;
 use pflow::filter::Filter;
 use pflow::game::{Game, Solver};
@@ -85,7 +85,7 @@ impl Rust {
         Rust {
             without_counts: game(ix.clone().without_counts()),
             game: game(ix),
-            start: (0..net.places).map(|p| tokens(&net.start, p)).collect(),
+            start: net.counts(&net.start),
         }
     }
 
@@ -181,17 +181,50 @@ impl<'a> Kept<'a> {
 const WORD: u64 = 0xA5A5;
 const TAG: u8 = 0xA5;
 
+/// What a call of the reference gives and leaves: words, tags, dictionary.
+type Left = (Answer, Vec<u64>, Vec<u8>, Vec<f64>);
+
 /// A call of the reference with the most memory that a memo takes.
-pub fn refer(net: &Net, s: &Settings) -> (Answer, Vec<u64>, Vec<u8>, Vec<f64>) {
+pub fn refer(net: &Net, s: &Settings) -> Left {
     let (mut words, mut tags) = (vec![WORD; 7_168], vec![TAG; 1_024]);
     let (answer, dict) = call_net(net, s, &mut words, &mut tags);
     (answer, words, tags, dict)
 }
 
-/// Whether the Rust shows the same: `Ok(true)` if so, `Ok(false)` if 01 has
-/// an answer here that the Rust has not.
-pub fn agrees(net: &Net, rust: &Rust, s: &Settings) -> Result<(Answer, bool), String> {
-    let (answer, words, tags, dict) = refer(net, s);
+/// How an answer was held to the Rust.
+#[derive(Clone, Copy, PartialEq)]
+pub enum Held {
+    /// The Rust shows the same.
+    Same,
+    /// A settling came to rest with the last firing allowed, where the Rust's
+    /// rule is another: it shows what our reading has by that rule, refusal 10.
+    ByRustRule,
+    /// 01 has an answer here that the Rust has not.
+    Alone,
+}
+
+/// Whether the Rust shows the same.
+pub fn agrees(net: &Net, rust: &Rust, s: &Settings) -> Result<(Answer, Held), String> {
+    let (left, at_limit) = net.noting_limit(|| refer(net, s));
+    let answer = left.0;
+    if !at_limit {
+        let same = agrees_on(net, rust, s, left)?;
+        return Ok((answer, if same { Held::Same } else { Held::Alone }));
+    }
+    if !left_right(&answer, net, s, &left.1, &left.2) {
+        return Err(format!("{answer}: the memory left is not as 01 says"));
+    }
+    net.by_rust_rule(|| match refer(net, s) {
+        left @ (Answer::Refused { number: 10, .. }, ..) => agrees_on(net, rust, s, left),
+        (other, ..) => Err(format!("{answer}, and by the Rust's rule {other}")),
+    })?;
+    Ok((answer, Held::ByRustRule))
+}
+
+/// Whether the Rust shows what a call of the reference left: `Ok(false)` if
+/// 01 has an answer here that the Rust has not.
+fn agrees_on(net: &Net, rust: &Rust, s: &Settings, left: Left) -> Result<bool, String> {
+    let (answer, words, tags, dict) = left;
     if !left_right(&answer, net, s, &words, &tags) {
         return Err(format!("{answer}: the memory left is not as 01 says"));
     }
@@ -201,7 +234,7 @@ pub fn agrees(net: &Net, rust: &Rust, s: &Settings) -> Result<(Answer, bool), St
     };
     let compared = match answer {
         Answer::Refused { number: 5, .. } => refusal("order piece"),
-        Answer::Refused { number: 1..=7, .. } => return Ok((answer, false)),
+        Answer::Refused { number: 1..=7, .. } => return Ok(false),
         Answer::Refused { number: 8, .. } => refusal("do not all belong to one side"),
         Answer::Refused { number: 10, .. } => refusal("never stop firing"),
         Answer::Refused { number: 9, .. } => match rust.choose(s) {
@@ -221,7 +254,7 @@ pub fn agrees(net: &Net, rust: &Rust, s: &Settings) -> Result<(Answer, bool), St
         }
         same(&spent, net, &less, rust.choose(&less), &words, &tags, &dict)?;
     }
-    Ok((answer, compared))
+    Ok(compared)
 }
 
 /// Whether memory is untouched by refusals 1 to 7 and behind the memo, and

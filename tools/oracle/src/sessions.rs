@@ -3,6 +3,8 @@
 //! answer, the count, every row and tag, the dictionary, the history and the
 //! generation are the same. Where the Rust has no answer our reading stands
 //! alone: refusals 4, 6, 7, 11, 12 and 13; after 8 to 12 the solver is renewed.
+//! Where a settling comes to rest with the last firing allowed, the Rust is held
+//! to our reading by the Rust's rule, and both begin anew.
 //!
 //! Memory is altered alike on both sides within what the Rust reads. What only
 //! our reading reads stands beside what it has to be read as: a row with a bound
@@ -12,7 +14,7 @@
 use crate::cases;
 use crate::random::{self, Random};
 use crate::reference::memo::{Shape, NO_MOVE};
-use crate::reference::net::{tokens, Marking, Net};
+use crate::reference::net::{Marking, Net};
 use crate::reference::session::{self, Session};
 use crate::reference::{call, sheet, Answer, Settings};
 use crate::rust::{is, shown, Got, Kept, Rust};
@@ -23,7 +25,7 @@ use std::collections::BTreeMap;
 const RAISED: u32 = 1 << 30;
 
 /// What a run must meet beside each answer and refusal.
-const ELSE: [&str; 8] = [
+const ELSE: [&str; 9] = [
     "opened",
     "exact with count 0",
     "no child",
@@ -32,6 +34,7 @@ const ELSE: [&str; 8] = [
     "read as the net's own",
     "such a row stored",
     "counter at its end",
+    "by the Rust's rule",
 ];
 
 /// A session of ours, and the kept solver.
@@ -47,6 +50,9 @@ struct Beside<'a> {
     twins: BTreeMap<usize, (Vec<u64>, Vec<u64>)>,
     /// A transition whose counter of ours is near its end, and what it began with.
     raised: Option<(usize, u32)>,
+    /// Whether in the last choice a settling came to rest with the last firing
+    /// allowed.
+    at_limit: bool,
     /// What was done, as a case has it (lists/README.md).
     log: Vec<String>,
 }
@@ -70,8 +76,8 @@ impl<'a> Beside<'a> {
             Session::open(net, s, &mut words, &mut tags).map_err(|n| format!("opening: refused {n}"))?;
         let rust = Kept::new(rust, s).ok_or("the Rust refuses what is opened")?;
         let log = vec![format!("open {} {} {}", fields(s), more.0, more.1)];
-        let (twins, altered, raised) = (BTreeMap::new(), false, None);
-        let beside = Beside { net, shape, ours, words, tags, rust, altered, twins, raised, log };
+        let (twins, altered, raised, at_limit) = (BTreeMap::new(), false, None, false);
+        let beside = Beside { net, shape, ours, words, tags, rust, altered, twins, raised, at_limit, log };
         beside.is_new(&w, &t)?;
         Ok(beside)
     }
@@ -97,8 +103,10 @@ impl<'a> Beside<'a> {
         let [a, b, c, d] = m;
         self.log.push(format!("pick {budget} {a:x} {b:x} {c:x} {d:x} {} {}", less.0, less.1));
         let (old, words, tags) = (self.ours.clone(), self.words.clone(), self.tags.clone());
-        let answer =
-            self.ours.choose(self.net, budget, m, &mut self.words[..lent.0], &mut self.tags[..lent.1]);
+        let (answer, at_limit) = self.net.noting_limit(|| {
+            self.ours.choose(self.net, budget, m, &mut self.words[..lent.0], &mut self.tags[..lent.1])
+        });
+        self.at_limit = at_limit;
         self.log.push(format!("> {}", cases::shown(answer)));
         match answer {
             Answer::Refused { number: 4 | 6 | 7 | 13, nodes, .. } => {
@@ -108,18 +116,45 @@ impl<'a> Beside<'a> {
             }
             Answer::Refused { number, .. } => {
                 self.is_new(&words, &tags)?;
-                self.refused(number, budget, m)?;
+                if !at_limit {
+                    self.refused(number, budget, m)?;
+                }
             }
             Answer::Spent { nodes } if nodes <= budget && !self.altered => {
                 return Err("no child has the root's value".into());
             }
+            _ if at_limit => {}
             _ => self.same(&answer, budget, m)?,
+        }
+        if at_limit {
+            self.by_rust_rule(budget, m, lent, (old, words, tags))?;
         }
         Ok(answer)
     }
 
-    fn dense(&self, m: &Marking) -> Vec<i64> {
-        (0..self.net.places).map(|p| tokens(m, p)).collect()
+    /// A choice with a settling that came to rest with the last firing allowed,
+    /// which the Rust refuses: it is held to ours by the Rust's rule, from what
+    /// was before, and both go on newly opened.
+    fn by_rust_rule(
+        &mut self,
+        budget: u64,
+        m: &Marking,
+        lent: (usize, usize),
+        before: (Session, Vec<u64>, Vec<u8>),
+    ) -> Result<(), String> {
+        let (words, tags) = (before.1.clone(), before.2.clone());
+        (self.ours, self.words, self.tags) = before;
+        let answer = self.net.by_rust_rule(|| {
+            self.ours.choose(self.net, budget, m, &mut self.words[..lent.0], &mut self.tags[..lent.1])
+        });
+        self.log.push(self.log[0].clone());
+        match answer {
+            Answer::Refused { number: 10, .. } => {
+                self.is_new(&words, &tags)?;
+                self.refused(10, budget, m)
+            }
+            _ => Err(format!("{answer} by the Rust's rule")),
+        }
     }
 
     /// Whether the Rust shows a refusal of the search; it is renewed.
@@ -130,7 +165,7 @@ impl<'a> Beside<'a> {
             _ => None,
         };
         if matches!(number, 8..=10) {
-            let got = self.rust.choose(budget, &self.dense(m));
+            let got = self.rust.choose(budget, &self.net.counts(m));
             let same = match (&got, text) {
                 (Some(Got::Error(e)), Some(text)) => e.contains(text),
                 // Where an altered row answers for the root, the moves are first
@@ -150,7 +185,7 @@ impl<'a> Beside<'a> {
 
     /// Whether the Rust gives the same answer and has the same to go on with.
     fn same(&mut self, answer: &Answer, budget: u64, m: &Marking) -> Result<(), String> {
-        let got = self.rust.choose(budget, &self.dense(m)).ok_or("the Rust goes on by counts")?;
+        let got = self.rust.choose(budget, &self.net.counts(m)).ok_or("the Rust goes on by counts")?;
         if !is(answer, &got) {
             return Err(format!("{answer}, but the Rust {}", shown(&got, budget)));
         }
@@ -367,9 +402,12 @@ impl Run {
         self.choices += 1;
         self.met.answer(answer, budget);
         let rust = !matches!(answer, Answer::Refused { number: 4 | 6 | 7 | 11 | 12 | 13, .. });
-        self.with_rust += rust as usize;
+        self.with_rust += (rust && !b.at_limit) as usize;
+        if b.at_limit {
+            self.met.add("by the Rust's rule");
+        }
         let searched = matches!(answer, Answer::Exact { .. } | Answer::None | Answer::Spent { .. });
-        if searched && before == 127 {
+        if searched && before == 127 && !b.at_limit {
             self.met.add("first generation again");
         }
         if b.raised.is_some_and(|(t, began)| b.ours.history[t] == u32::MAX && began != u32::MAX) {
@@ -492,7 +530,7 @@ pub fn run(seed: u64, choices: usize) -> bool {
         if run.choices >= choices {
             break;
         }
-        let text = random::sheet(&mut run.r).text();
+        let text = random::sheet_or_long(&mut run.r, n).text();
         let net = Net::new(sheet::read(text.as_bytes()).expect("a random sheet is rightful"));
         let rust = Rust::new(&net);
         let mut got = run.opening(&text).map_err(|why| (why, vec![]));

@@ -20,7 +20,9 @@ const BYTES: usize = 9_000;
 /// The most moves of a walk, so that a line has at most 127 bytes.
 const MOVES: usize = 60;
 
-/// A walk by the Rust, and beside it by our own reading.
+/// A walk by the Rust, and beside it by our own reading. (A settling that comes
+/// to rest with the last firing allowed, which the Rust refuses, goes on from
+/// where its bits stand then.)
 struct Walk<'a> {
     net: &'a Net,
     game: &'a Game,
@@ -56,10 +58,15 @@ impl<'a> Walk<'a> {
     fn play(&mut self, t: usize) -> Ended {
         self.resume();
         let mut next = self.at;
-        let ended = next.play(self.game, t);
-        match (ended, self.net.play(&self.marking, t)) {
-            (Ended::Settled, Ok(m)) => (self.at, self.marking) = (next, m),
-            (Ended::Spilled, Err(Stop::Refused(9))) | (Ended::Endless, Err(Stop::Refused(10))) => {}
+        let mut ended = next.play(self.game, t);
+        match (ended, self.net.noting_limit(|| self.net.play(&self.marking, t))) {
+            (Ended::Settled, (Ok(m), false)) => (self.at, self.marking) = (next, m),
+            // The Rust refuses here what is at rest: it does not look again.
+            (Ended::Endless, (Ok(m), true)) => {
+                ended = Ended::Settled;
+                (self.at, self.marking) = (next, m);
+            }
+            (Ended::Spilled, (Err(Stop::Refused(9)), _)) | (Ended::Endless, (Err(Stop::Refused(10)), _)) => {}
             _ => panic!("move {t} ends otherwise by our reading"),
         }
         self.words.push(ended as u64);

@@ -1,4 +1,5 @@
-//! Our own plain reading of 01, and of sessions (02, L1): the call from sheet
+//! Our own plain reading of 01, of sessions (02, L1) and of the end of a
+//! settling (02, L2): the call from sheet
 //! to answer, with the reader, the refusals, the counts and what is left in the
 //! lent memory.
 //! It is compared with the Rust wherever 01 says that they agree, and says
